@@ -1,0 +1,3 @@
+//! Examples that are run, and compared with what they should give.
+#[cfg(test)]
+mod tables;
