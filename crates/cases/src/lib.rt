@@ -1,3 +1,5 @@
 //! Examples that are run, and compared with what they should give.
 #[cfg(test)]
+mod rules;
+#[cfg(test)]
 mod tables;

@@ -1,10 +1,13 @@
-//! A bottle filling line: its tasks are entered one by one, and the table is printed.
+//! A bottle filling line: its tasks are entered one by one, the table is printed, and so are the points that each order rule gives
+//! them.
 mod line;
+mod points;
 
 use line::Row;
 use line::rows;
 use model::Refusal;
 use model::RefusalDisplay;
+use points::print_points;
 use std::io;
 use tasks::Table;
 
@@ -46,5 +49,6 @@ fn main(rt: LibcRuntime) -> io::Result<()> {
     }
     let count = table.count();
     println!(rt, "The table has {count} tasks.")?;
-    print_table(&rt, &table, names.as_slice())
+    print_table(&rt, &table, names.as_slice())?;
+    print_points(&rt, &table)
 }

@@ -1,0 +1,2 @@
+pub mod Higher
+pub mod Same

@@ -1,0 +1,4 @@
+mod Filled
+mod Made
+mod Products
+mod Stored
