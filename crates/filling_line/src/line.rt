@@ -35,3 +35,11 @@ pub fn rows() -> [Row; 10] {
         Row::new("logging", 10, 40, 500, 500),
     ]
 }
+
+/// The rows of the bench where bottles with loose caps are capped again.
+pub fn rework_rows() -> [Row; 2] {
+    [
+        Row::new("cap camera", 6, 20, 60, 60),
+        Row::new("capper", 3, 10, 60, 60),
+    ]
+}

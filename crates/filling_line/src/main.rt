@@ -1,15 +1,27 @@
-//! A bottle filling line: its tasks are entered one by one, the table is printed, and so are the points that each order rule gives
-//! them.
+//! A bottle filling line: its tasks are entered one by one, the table is tested under several order rules, and the admitted line is
+//! dispatched.
 mod line;
 mod points;
+mod shift;
+mod verdicts;
 
+use admission::Accepted;
 use line::Row;
+use line::rework_rows;
 use line::rows;
 use model::Refusal;
 use model::RefusalDisplay;
 use points::print_points;
+use rules::Arrival;
+use rules::ArrivalOrder;
+use rules::Deadline;
+use rules::DeadlineOrder;
+use shift::print_held;
+use shift::print_run;
 use std::io;
 use tasks::Table;
+use verdicts::print_verdict;
+use verdicts::print_verdicts;
 
 /// Enters one row, and prints its number or why it is refused.
 fn enter(rt: &impl Print, table: &mut Table, row: &Row) -> io::Result<Result<u32, Refusal>> {
@@ -50,5 +62,21 @@ fn main(rt: LibcRuntime) -> io::Result<()> {
     let count = table.count();
     println!(rt, "The table has {count} tasks.")?;
     print_table(&rt, &table, names.as_slice())?;
-    print_points(&rt, &table)
+    print_points(&rt, &table)?;
+    let mut place = Accepted::new();
+    print_verdicts(&rt, &table, &mut place)?;
+    let deadline = Deadline::new(&table);
+    print_run(&rt, &place, &deadline)?;
+    print_held(&rt, &place, &deadline)?;
+    println!(rt, "Started with another rule:")?;
+    print_run(&rt, &place, &Arrival::new())?;
+    println!(
+        rt,
+        "The rework bench, tested in the place that holds the line:"
+    )?;
+    let mut bench = Table::new();
+    for row in rework_rows().iter() {
+        let _ = enter(&rt, &mut bench, row)?;
+    }
+    print_verdict(&rt, "deadline", &bench, &Deadline::new(&bench), &mut place)
 }

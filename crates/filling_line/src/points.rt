@@ -29,8 +29,8 @@ pub fn print_points(rt: &impl Print, table: &Table) -> io::Result<()> {
     print_row(rt, "deadline", &deadline, count)?;
     print_row(rt, "arrival", &Arrival::new(), count)?;
     print_row(rt, "level", &Level::new(table), count)?;
-    match Weighted::by_suspension(table, -1, &deadline) {
-        Ok(urgent) => print_row(rt, "deadline, S-weight -1", &urgent, count),
+    match Weighted::by_suspension(table, 1, &deadline) {
+        Ok(patient) => print_row(rt, "deadline, S-weight 1", &patient, count),
         Err(refusal) => println!(rt, "  {refusal}"),
     }
 }

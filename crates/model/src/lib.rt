@@ -1,16 +1,45 @@
 //! What the library means: the words that every other crate speaks in, their definitions in `specs/`,
 //! and what is proved about the definitions.
+mod call;
 mod figures;
 mod job;
+mod law;
 mod refusal;
+mod worked;
+mod worked_runs;
 
+pub use call::Answer;
+pub use call::AnswerDebug;
+pub use call::AnswerPartialEq;
+pub use call::Call;
+pub use call::CallDebug;
+pub use call::CallPartialEq;
+pub use call::Ended;
+pub use call::EndedDebug;
+pub use call::EndedPartialEq;
+pub use call::Ticked;
+pub use call::TickedDebug;
+pub use call::TickedPartialEq;
 pub use figures::Figures;
 pub use figures::FiguresDebug;
 pub use figures::FiguresPartialEq;
+pub use job::Job;
+pub use job::JobDebug;
 pub use job::JobId;
 pub use job::JobIdDebug;
 pub use job::JobIdPartialEq;
+pub use job::JobPartialEq;
+pub use job::Phase;
+pub use job::PhaseDebug;
+pub use job::PhasePartialEq;
+pub use law::count_laws;
+pub use law::processor_law;
+pub use law::run_law;
+pub use law::tighter_laws;
 pub use refusal::Refusal;
 pub use refusal::RefusalDebug;
 pub use refusal::RefusalDisplay;
 pub use refusal::RefusalPartialEq;
+pub use worked::worked_sets;
+pub use worked_runs::three_runs;
+pub use worked_runs::weaker_tests;

@@ -1,0 +1,3 @@
+mod Best
+mod Iteration
+pub mod Kept

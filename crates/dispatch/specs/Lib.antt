@@ -1,0 +1,5 @@
+pub mod Events
+pub mod Holding
+pub mod Runs
+pub mod Sound
+pub mod Ticks
