@@ -108,9 +108,11 @@ fn ties_go_to_the_lower_number_and_in_the_sample_to_the_higher() -> Result<(), F
     check_before(&deadline, job(0, 2), job(1, 0))?;
     check_before(&deadline, job(1, 0), job(0, 3))?;
     check_before(&deadline, job(0, 2), job(9, 7))?;
+    check_before(&deadline, job(1, 0), job(9, 7))?;
     let sample = HigherFirst::new(&[5, 7]);
     check_before(&sample, job(1, 0), job(0, 2))?;
     check_before(&sample, job(9, 7), job(1, 0))?;
+    check_before(&sample, job(9, 7), job(0, 2))?;
     check_before(
         &Weighted::by_execution(&table, 1, &deadline)?,
         job(0, 2),

@@ -14,7 +14,7 @@ use Rattle.model.specs.declared.job.Phase.{Phase}
 use Rattle.model.specs.declared.job.Phase.the-variants.{Closed, Ready, Waiting}
 use Rattle.words.proofs.Words.{word-unique}
 use Rattle.words.specs.Bits.{has}
-use Rattle.dispatch.proofs.Outside.{open-inside, ready-opens}
+use Rattle.dispatch.proofs.Outside.{open-inside}
 use Rattle.dispatch.specs.Sound.{Sound, state-of}
 use Rattle.dispatch.specs.declared.board.Board.{Board}
 

@@ -1,33 +1,27 @@
 -- The ready job that goes before all others, found by a walk of the word of the ready tasks.
-use Prim.Native.Nat.{ℕ, _<_, _≤_}
+use Prim.Native.Nat.{ℕ, _<_}
 use mathlib.Core.Path.{_≡_, _∙_, refl, sym, ap, subst}
 use mathlib.Core.Bool.{Bool, true, false, not, _&&_}
 use mathlib.Core.List.{List}
 use mathlib.Core.Logic.{⊎-elim}
-use native.Mathlib.Omega.{arith}
 use lib.Dec.{eqb}
 use lib.IntN.{ℤ}
-use lib.ListN.{length, getD}
-use Rattle.std.proofs.shelf.Lists.{getD-past}
-use Rattle.std.proofs.shelf.Tests.{and-cases, and-left, and-parts, and-right, both-ways, cases-eq, cases-lt, eq-eqb, eqb-true, le-ltb}
+use lib.ListN.{length}
+use Rattle.std.proofs.shelf.Tests.{and-cases, and-left, and-parts, and-right, both-ways, cases-eq, eq-eqb, eqb-true}
 use Rattle.std.proofs.shelf.Tests.{not-false, not-from-true}
-use Rattle.std.specs.Options.{valueOr}
 use Rattle.std.specs.declared.option.Option.{Option}
 use Rattle.std.specs.declared.option.Option.the-variants.{Some, None}
 use Rattle.model.proofs.Processor.{processor-law}
-use Rattle.model.specs.Figures.{no-task}
 use Rattle.model.specs.Orders.{Lawful}
 use Rattle.model.specs.Processor.{processor}
 use Rattle.model.specs.ProcessorLaw.{Foremost, Rightful}
-use Rattle.model.specs.State.{State, identity, is-ready, job, no-job}
+use Rattle.model.specs.State.{State, identity, is-ready, job}
 use Rattle.model.specs.declared.figures.Figures.{Figures}
-use Rattle.model.specs.declared.job.Job.{Job}
 use Rattle.model.specs.declared.job.JobId.{JobId}
-use Rattle.model.specs.declared.job.Phase.{Phase}
-use Rattle.model.specs.declared.job.Phase.the-variants.{Closed, Ready, Waiting}
 use Rattle.words.proofs.Bits.{has-zero}
 use Rattle.words.specs.Bits.{has}
-use Rattle.dispatch.specs.Sound.{Chosen, Sound, counts-in, in-bounds, state-of}
+use Rattle.dispatch.proofs.Outside.{open-inside, ready-opens}
+use Rattle.dispatch.specs.Sound.{Chosen, Sound, state-of}
 use Rattle.dispatch.specs.declared.board.Board.{Board}
 
 -- Of the ready tasks met so far, those in the word ready and not in the word rest, the job of this one goes before all others.
@@ -118,26 +112,12 @@ module _ {point : ℕ → ℤ} {before : JobId → JobId → Bool} (lawful : Law
       };
     }
 
--- No ready job is in bounds under figures of 0.
-none-ready : (p : Phase) (j : Job) → counts-in p no-task j ≡ true → is-ready p ≡ true → ⊥
-none-ready Closed j h r = both-ways false refl r
-none-ready Ready j h r = both-ways _ (and-left _ _ (le-ltb (j .given) 0 (omega arith))) h
-none-ready Waiting j h r = both-ways false refl r
-
-none-ready-of : (clock : ℕ) (o : Option Job) → in-bounds no-task clock o ≡ true → is-ready (valueOr o no-job .phase) ≡ true → ⊥
-none-ready-of clock None h r = both-ways false refl r
-none-ready-of clock (Some j) h r = none-ready (j .phase) j (and-parts _ (counts-in (j .phase) no-task j) h .1) r
-
 -- At the end of the walk every ready job was met.
 module _ {point : ℕ → ℤ} {before : JobId → JobId → Bool} (lawful : Lawful point before) (tasks : List Figures) (b : Board)
     (sound : Sound tasks b) {rest : ℕ} {best : Option JobId} (walked : Walked before (state-of b) (b .ready) rest best)
     (over : rest ≡ 0) where
   in-the-set : (i : ℕ) → is-ready (job (state-of b) i .phase) ≡ true → i < length tasks
-  in-the-set i r =
-      ⊎-elim (λ (l : i < length tasks). l)
-      (λ (l : length tasks ≤ i). absurd (none-ready-of (b .clock) (getD (b .jobs) i None)
-      (subst (λ (f : Figures). in-bounds f (b .clock) (getD (b .jobs) i None) ≡ true) (getD-past tasks i no-task l) (sound .2 i)) r))
-      (cases-lt i (length tasks))
+  in-the-set i r = open-inside tasks b sound i (ready-opens (job (state-of b) i .phase) r)
 
   all-met : (j : ℕ) → has rest j ≡ false
   all-met j = subst (λ (w : ℕ). has w j ≡ false) (sym over) (has-zero j)

@@ -1,7 +1,6 @@
 -- What holds of the tasks of every table.
-use Prim.Native.Nat.{_≤_}
 use native.Mathlib.Omega.{arith}
-use lib.ListN.{length, length-take}
+use lib.ListN.{length-take}
 use Rattle.model.specs.Figures.{Tasks}
 use Rattle.tasks.specs.Listed.{listed}
 use Rattle.tasks.specs.declared.table.Table.{Table}

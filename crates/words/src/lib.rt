@@ -79,5 +79,12 @@ fn marked(word: u32, k: u32) -> u32
 pub fn union(a: u32, b: u32) -> u32
     ensures bits { λ r. ⌜ ((j : ℕ) → has r j ≡ (has a j || has b j)) ⌝ }
 {
+    merged(a, b)
+}
+
+/// The bits of either word, by one operation.
+fn merged(a: u32, b: u32) -> u32
+    ensures bits { λ r. ⌜ ((j : ℕ) → has r j ≡ (has a j || has b j)) ⌝ }
+{
     a | b
 }

@@ -2,7 +2,7 @@ use mathlib.Core.Path.{_≡_, _∙_, ap, ap₂}
 use Rattle.admission.specs.Views.{tasks-of}
 use Rattle.admission.specs.declared.accepted.Accepted.{Accepted}
 use Rattle.model.specs.Machine.{after, open-word}
-use Rattle.model.specs.State.{State, start}
+use Rattle.model.specs.State.{State}
 use Rattle.dispatch.proofs.Held.{made}
 use Rattle.dispatch.specs.Holding.{calls, filled}
 use Rattle.dispatch.specs.Runs.{of-rule, of-set, state}

@@ -1,4 +1,4 @@
-use mathlib.Core.Path.{_≡_, _∙_, ap, ap₂}
+use mathlib.Core.Path.{_∙_, ap, ap₂}
 use Rattle.std.specs.declared.option.Option.the-variants.{Some, None}
 use lib.ListN.{getD}
 use native.Mathlib.Omega.{arith}

@@ -1,12 +1,12 @@
-use mathlib.Core.Path.{_≡_, _∙_, sym, subst}
+use mathlib.Core.Path.{_≡_, _∙_}
 use native.Mathlib.Omega.{arith}
-use lib.IntN.{ℤ, pos, negℤ}
+use lib.IntN.{pos, negℤ}
 use lib.ListN.{length-set}
 use lib.Signed.{_≤ℤ_}
 use mir.Syntax.{w32}
 use mir.Val.{toZ, ofZ}
 use Rattle.std.proofs.shelf.Signed.{ints}
-use Rattle.model.specs.Orders.{InRange, farthest}
+use Rattle.model.specs.Orders.{farthest}
 use Rattle.rules.proofs.Stored.{each-after-set}
 use Rattle.rules.proofs.points.Points.put.Needs as need
 

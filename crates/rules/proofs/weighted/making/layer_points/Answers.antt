@@ -1,12 +1,11 @@
-use mathlib.Core.Path.{_≡_, _∙_, ap, subst, sym}
+use mathlib.Core.Path.{_≡_, subst, sym}
 use native.Mathlib.Omega.{arith}
-use lib.IntN.{ℤ, _+ℤ_}
-use lib.ListN.{getD}
+use lib.IntN.{ℤ}
 use mir.Syntax.{w32}
-use mir.Val.{SFits, toZ, ofZ}
+use mir.Val.{toZ, ofZ}
 use Rattle.std.proofs.shelf.Signed.{ints}
 use Rattle.model.specs.Orders.{InRange}
-use Rattle.model.specs.Rules.{capped, weighted-point}
+use Rattle.model.specs.Rules.{weighted-point}
 use Rattle.tasks.specs.Listed.{listed}
 use Rattle.rules.proofs.Filled.{filled-none, filled-more, filled-all}
 use Rattle.rules.proofs.Made.{weights, few}
