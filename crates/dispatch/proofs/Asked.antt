@@ -19,14 +19,17 @@ use Rattle.dispatch.specs.Sound.{Sound, state-of}
 use Rattle.dispatch.specs.declared.board.Board.{Board}
 
 -- A word of phases that are open is the word of the tasks in them.
-module _ (tasks : List Figures) (b : Board) (sound : Sound tasks b) (test : Phase → Bool) (opens : (p : Phase) → test p ≡ true → is-open p ≡ true) where
-  pub word-of : (w : ℕ) → ((i : ℕ) → has w i ≡ test (job (state-of b) i .phase)) → w ≡ word (length tasks) (λ i. test (job (state-of b) i .phase))
+module _ (tasks : List Figures) (b : Board) (sound : Sound tasks b) (test : Phase → Bool) (opens : (p : Phase) → test p ≡ true
+    → is-open p ≡ true) where
+  pub word-of : (w : ℕ) → ((i : ℕ) → has w i ≡ test (job (state-of b) i .phase)) → w ≡ word (length tasks) (λ i. test (job
+      (state-of b) i .phase))
   word-of w bits =
       word-unique (length tasks) w (λ i. test (job (state-of b) i .phase))
       (λ i.
       bits i ∙ ⊎-elim
       (λ (h : test (job (state-of b) i .phase) ≡ true).
-      sym (ap (λ (t : Bool). t && test (job (state-of b) i .phase)) (lt-ltb i (length tasks) (open-inside tasks b sound i (opens (job (state-of b) i .phase) h)))))
+      sym (ap (λ (t : Bool). t && test (job (state-of b) i .phase)) (lt-ltb i (length tasks) (open-inside tasks b sound i (opens (job
+      (state-of b) i .phase) h)))))
       (λ (h : test (job (state-of b) i .phase) ≡ false). h ∙ sym (and-right (ltb i (length tasks)) (test (job (state-of b) i .phase)) h))
       (cases-bool (test (job (state-of b) i .phase))))
 

@@ -40,12 +40,14 @@ none-at zero i = refl
 none-at (suc n) zero = refl
 none-at (suc n) (suc i) = none-at n i
 
-pub state-is : (m n : ℕ) (f g : ℕ → Option Job) → m ≡ n → ((i : ℕ) → f i ≡ g i) → _≡_ {A = State} (record { clock = m; latest = f }) (record { clock = n; latest = g })
+pub state-is : (m n : ℕ) (f g : ℕ → Option Job) → m ≡ n → ((i : ℕ) → f i ≡ g i) → _≡_ {A = State} (record { clock = m; latest = f })
+    (record { clock = n; latest = g })
 state-is m n f g p q =
     let made : ℕ → (ℕ → Option Job) → State = λ c l. record { clock = c; latest = l } in
     ap (λ (c : ℕ). made c f) p ∙ ap (made n) (fun-ext q)
 
-module _ (b : Board) (clock : b .clock ≡ 0) (jobs : b .jobs ≡ replicate most-tasks None) (ready : b .ready ≡ 0) (waiting : b .waiting ≡ 0) where
+module _ (b : Board) (clock : b .clock ≡ 0) (jobs : b .jobs ≡ replicate most-tasks None) (ready : b .ready ≡ 0)
+    (waiting : b .waiting ≡ 0) where
   nothing : (i : ℕ) → getD (b .jobs) i None ≡ None
   nothing i = ap (λ (js : List (Option Job)). getD js i None) jobs ∙ none-at most-tasks i
 
@@ -75,14 +77,16 @@ module _ (tasks : List Figures) (b after : Board) (task : ℕ) (j : Job) (within
 
   bounded : (i : ℕ) (t : Bool) → eqb i task ≡ t → in-bounds (getD tasks task no-task) (b .clock) (Some j) ≡ true
       → in-bounds (getD tasks i no-task) (b .clock) (cond t (Some j) (getD (b .jobs) i None)) ≡ true
-  bounded i true e h = let same : i ≡ task = grind (arith, tells) in subst (λ (k : ℕ). in-bounds (getD tasks k no-task) (b .clock) (Some j) ≡ true) (sym same) h
+  bounded i true e h = let same : i ≡ task = grind (arith, tells) in subst (λ (k : ℕ). in-bounds (getD tasks k no-task) (b .clock)
+      (Some j) ≡ true) (sym same) h
   bounded i false e h = sound .2 i
 
   worded : (test : Job → Bool) (w v : ℕ) → ((i : ℕ) → has w i ≡ test (job (state-of b) i))
       → ((i : ℕ) → has v i ≡ cond (eqb i task) (test j) (has w i)) → (i : ℕ) → has v i ≡ test (job (state-of after) i)
   worded test w v old new i =
       let split : (t : Bool) → cond t (test j) (has w i) ≡ test (valueOr (cond t (Some j) (getD (b .jobs) i None)) no-job) =
-      λ t. elim t as (λ x. cond x (test j) (has w i) ≡ test (valueOr (cond x (Some j) (getD (b .jobs) i None)) no-job)) [ true ↦ refl | false ↦ old i ] in
+      λ t. elim t as (λ x. cond x (test j) (has w i) ≡ test (valueOr (cond x (Some j) (getD
+      (b .jobs) i None)) no-job)) [ true ↦ refl | false ↦ old i ] in
       new i ∙ (split (eqb i task) ∙ sym (ap (λ (o : Option Job). test (valueOr o no-job)) (at i)))
 
   pub put-sound : in-bounds (getD tasks task no-task) (b .clock) (Some j) ≡ true → Sound tasks after

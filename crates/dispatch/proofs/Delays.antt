@@ -6,7 +6,8 @@ use mathlib.Core.List.{List}
 use mathlib.Core.Logic.{⊎-elim}
 use lib.Dec.{eqb}
 use lib.ListN.{getD}
-use Rattle.std.proofs.shelf.Tests.{and-from, and-left, and-parts, and-right, cases-eq, cond-false, cond-true, eq-eqb, ne-eqb, not-from-false, not-from-true}
+use Rattle.std.proofs.shelf.Tests.{and-from, and-left, and-parts, and-right, cases-eq, cond-false, cond-true, eq-eqb, ne-eqb}
+use Rattle.std.proofs.shelf.Tests.{not-from-false, not-from-true}
 use Rattle.std.specs.Options.{valueOr}
 use Rattle.std.specs.declared.option.Option.{Option}
 use Rattle.std.specs.declared.option.Option.the-variants.{Some, None}
@@ -117,7 +118,8 @@ module _ (tasks : List Figures) (from at : Board) (all rest forced : ℕ) (d : D
           (λ (same : i ≡ k). subst (λ (m : ℕ). getD (next .jobs) m None ≡ record-of tasks from m (met all less m)) (sym same) latest-here)
           (λ (other : i ≡ k → ⊥).
           latest-now i
-          ∙ (cond-false (eqb i k) (Some (ticked (getD tasks k no-task) false (job (state-of at) k))) (getD (at .jobs) i None) (ne-eqb i k other)
+          ∙ (cond-false (eqb i k) (Some (ticked (getD tasks k no-task) false (job (state-of at) k))) (getD (at .jobs) i None)
+          (ne-eqb i k other)
           ∙ (d .latest i ∙ sym (ap (record-of tasks from i) (met-else i other)))))
           (cases-eq i k);
       word = λ i.
@@ -145,7 +147,8 @@ module _ (tasks : List Figures) (from at : Board) (all rest forced : ℕ) (d : D
 -- The word of the forced tasks, where the job that was met is overdue and where it is not.
 pub marked-late : (forced new k : ℕ) (t : Bool) → t ≡ true → ((i : ℕ) → has new i ≡ (has forced i || eqb i k))
     → (i : ℕ) → has new i ≡ (has forced i || (eqb i k && t))
-marked-late forced new k t e bits i = bits i ∙ ap (λ (b : Bool). has forced i || b) (sym (ap (λ (b : Bool). eqb i k && b) e ∙ and-true (eqb i k)))
+marked-late forced new k t e bits i = bits i ∙ ap (λ (b : Bool). has forced i || b) (sym (ap (λ (b : Bool). eqb i k && b) e ∙ and-true
+    (eqb i k)))
 
 pub marked-not : (forced k : ℕ) (t : Bool) → t ≡ false → (i : ℕ) → has forced i ≡ (has forced i || (eqb i k && t))
 marked-not forced k t e i = sym (ap (λ (b : Bool). has forced i || b) (and-right (eqb i k) t e) ∙ or-false (has forced i))

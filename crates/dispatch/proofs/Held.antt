@@ -34,15 +34,19 @@ module _ (tasks : List Figures) (before : JobId → JobId → Bool) where
   filled-calls s [] = refl
   filled-calls s (e ∷ es) = ap (λ (cs : List Call). e .call ∷ cs) (filled-calls (step tasks before (e .call) s .1) es)
 
-  pub filled-answers : (s : State) (es : List Entry) → map (λ e. e .answer) (filled tasks before s es) ≡ map Some (answers tasks before s (calls es))
+  pub filled-answers : (s : State) (es : List Entry) → map (λ e. e .answer) (filled tasks before s es) ≡ map Some
+      (answers tasks before s (calls es))
   filled-answers s [] = refl
   filled-answers s (e ∷ es) =
-      ap (λ (rest : List (Option Answer)). Some (step tasks before (e .call) s .0) ∷ rest) (filled-answers (step tasks before (e .call) s .1) es)
+      ap (λ (rest : List (Option Answer)). Some (step tasks before (e .call) s .0) ∷ rest) (filled-answers (step tasks before
+      (e .call) s .1) es)
 
-  pub filled-transcript : (s : State) (es : List Entry) → transcript (filled tasks before s es) ≡ zipped (calls es) (answers tasks before s (calls es))
+  pub filled-transcript : (s : State) (es : List Entry) → transcript (filled tasks before s es) ≡ zipped (calls es)
+      (answers tasks before s (calls es))
   filled-transcript s [] = refl
   filled-transcript s (e ∷ es) =
-      ap (λ (t : List (Call × Answer)). (e .call, step tasks before (e .call) s .0) ∷ t) (filled-transcript (step tasks before (e .call) s .1) es)
+      ap (λ (t : List (Call × Answer)). (e .call, step tasks before (e .call) s .0) ∷ t) (filled-transcript (step tasks before
+      (e .call) s .1) es)
 
   -- The first entries have their answers, and the run is where these calls lead.
   pub record Filling (from : State) (given : List Entry) (s : State) (es : List Entry) (i : ℕ) : Type 0 where
@@ -71,7 +75,8 @@ module _ (tasks : List Figures) (before : JobId → JobId → Bool) where
         rest = drop-set-lt (i + 1) es i x (omega arith) ∙ behind;
         done =
             ap (λ (t : List Entry). t ++ filled tasks before next (drop (i + 1) given)) (take-more-set es i x inside)
-            ∙ (append-assoc (take i es) (x ∷ []) (filled tasks before next (drop (i + 1) given)) ∙ (ap (λ (t : List Entry). take i es ++ t) here ∙ f .done));
+            ∙ (append-assoc (take i es) (x ∷ []) (filled tasks before next (drop (i + 1) given)) ∙ (ap (λ
+            (t : List Entry). take i es ++ t) here ∙ f .done));
         ends =
             ap₂ (λ t ys. after tasks before t (calls ys)) moved (sym behind)
             ∙ (sym (ap (λ (ys : List Entry). after tasks before s (calls ys)) ahead) ∙ f .ends);
@@ -89,9 +94,11 @@ module _ (tasks : List Figures) (before : JobId → JobId → Bool) where
     state-after over = ap (λ (ys : List Entry). after tasks before s (calls ys)) (sym (nothing over)) ∙ f .ends
 
 -- A run that was made keeps its promises.
-module _ (held : Accepted) (points : ℕ → ℤ) (before : JobId → JobId → Bool) (lawful : Lawful points before) (agree : Agree held points) (law : RunLaw)
+module _ (held : Accepted) (points : ℕ → ℤ) (before : JobId → JobId → Bool) (lawful : Lawful points before) (agree : Agree held points)
+    (law : RunLaw)
     (given back : List Entry) (t : Totals) (s : State) (entries : back ≡ filled (tasks-of held) before start given)
-    (state : s ≡ after (tasks-of held) before start (calls given)) (clock : t .clock ≡ s .clock) (word : t .«open» ≡ open-word (tasks-of held) s) where
+    (state : s ≡ after (tasks-of held) before start (calls given)) (clock : t .clock ≡ s .clock) (word : t .«open» ≡ open-word
+    (tasks-of held) s) where
   fit : Tasks (tasks-of held)
   fit = (simp length-take (omega (arith, held .few)), held .fit)
 
@@ -105,5 +112,6 @@ module _ (held : Accepted) (points : ℕ → ℤ) (before : JobId → JobId → 
         subst (λ (tr : Transcript). Promises (tasks-of held) (bounds-of held) (reading tr))
         (sym (ap transcript entries ∙ filled-transcript (tasks-of held) before start given))
         (law (tasks-of held) (points-of held) (bounds-of held) fit
-        (warrant (tasks-of held) (points-of held) (bounds-of held) (offsets-of held) (held .each) (held .shown)) points before lawful agree (calls given));
+        (warrant (tasks-of held) (points-of held) (bounds-of held) (offsets-of held) (held .each)
+        (held .shown)) points before lawful agree (calls given));
   }

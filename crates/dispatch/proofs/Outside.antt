@@ -29,7 +29,8 @@ none-open-of : (clock : ℕ) (o : Option Job) → in-bounds no-task clock o ≡ 
 none-open-of clock None h r = both-ways false refl r
 none-open-of clock (Some j) h r = none-open (j .phase) j (and-parts _ (counts-in (j .phase) no-task j) h .1) r
 
-pub open-inside : (tasks : List Figures) (b : Board) → Sound tasks b → (i : ℕ) → is-open (job (state-of b) i .phase) ≡ true → i < length tasks
+pub open-inside : (tasks : List Figures) (b : Board) → Sound tasks b → (i : ℕ) → is-open (job (state-of b) i .phase) ≡ true
+    → i < length tasks
 open-inside tasks b sound i r =
     ⊎-elim (λ (l : i < length tasks). l)
     (λ (l : length tasks ≤ i).

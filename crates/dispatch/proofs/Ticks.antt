@@ -7,7 +7,8 @@ use mathlib.Core.Logic.{⊎-elim}
 use native.Mathlib.Omega.{arith}
 use lib.Dec.{eqb, leb, ltb}
 use lib.ListN.{length, getD}
-use Rattle.std.proofs.shelf.Tests.{and-from, and-left, and-parts, and-right, both-ways, cases-bool, cond-false, eqb-true, le-leb, leb-true, lt-ltb}
+use Rattle.std.proofs.shelf.Tests.{and-from, and-left, and-parts, and-right, both-ways, cases-bool, cond-false, eqb-true, le-leb}
+use Rattle.std.proofs.shelf.Tests.{leb-true, lt-ltb}
 use Rattle.std.specs.Options.{mapped, valueOr}
 use Rattle.std.specs.declared.option.Option.{Option}
 use Rattle.std.specs.declared.option.Option.the-variants.{Some, None}
@@ -39,7 +40,8 @@ put-everywhere k g s =
     let agree : (i : ℕ) (t : Bool) → eqb i k ≡ t → cond t (Some (g k)) (s .latest i) ≡ cond t (Some (g i)) (s .latest i) =
     λ i t. elim t as (λ x. eqb i k ≡ x → cond x (Some (g k)) (s .latest i) ≡ cond x (Some (g i)) (s .latest i))
     [ true ↦ λ e. ap (λ (m : ℕ). Some (g m)) (sym (eqb-true i k e)) | false ↦ λ e. refl ] in
-    state-is (s .clock) (s .clock) (put k (g k) s .latest) (λ i. cond (eqb i k) (Some (g i)) (s .latest i)) refl (λ i. agree i (eqb i k) refl)
+    state-is (s .clock) (s .clock) (put k (g k) s .latest) (λ i. cond (eqb i k) (Some (g i)) (s .latest i)) refl (λ i. agree i
+    (eqb i k) refl)
 
 -- A job that neither runs nor waits is as it was.
 unmoved : (f : Figures) (j : Job) → is-waiting (j .phase) ≡ false → ticked f false j ≡ j
@@ -65,9 +67,14 @@ later : (f : Figures) (clock : ℕ) (o : Option Job) → in-bounds f clock o ≡
 later f clock None h = refl
 later f clock (Some j) h =
     let parts = and-parts (leb (j .release) clock) (counts-in (j .phase) f j) h in
-    and-from (leb (j .release) (clock + 1)) (counts-in (j .phase) f j) (le-leb (j .release) (clock + 1) (omega (arith, leb-true (j .release) clock (parts .0)))) (parts .1)
+    and-from (leb (j .release) (clock + 1)) (counts-in (j .phase) f j) (le-leb (j .release) (clock + 1) (omega (
+      arith,
+      leb-true
+          (j .release) clock (parts .0),
+    ))) (parts .1)
 
-pub sound-later : (tasks : List Figures) (b next : Board) → Sound tasks b → b .clock < last-clock → next .clock ≡ b .clock + 1 → next .jobs ≡ b .jobs
+pub sound-later : (tasks : List Figures) (b next : Board) → Sound tasks b → b .clock < last-clock → next .clock ≡ b .clock + 1
+    → next .jobs ≡ b .jobs
     → next .ready ≡ b .ready → next .waiting ≡ b .waiting → Sound tasks next
 sound-later tasks b next sound less clock jobs ready waiting = (
   ap length jobs ∙ sound .0,
@@ -75,8 +82,10 @@ sound-later tasks b next sound less clock jobs ready waiting = (
   (λ i. subst (λ (c : ℕ). in-bounds (getD tasks i no-task) c (getD (next .jobs) i None) ≡ true) (sym clock)
       (subst (λ (js : List (Option Job)). in-bounds (getD tasks i no-task) (b .clock + 1) (getD js i None) ≡ true) (sym jobs)
       (later (getD tasks i no-task) (b .clock) (getD (b .jobs) i None) (sound .2 i)))),
-  (λ i. ap (λ (w : ℕ). has w i) ready ∙ (sound .3 i ∙ sym (ap (λ (js : List (Option Job)). is-ready (valueOr (getD js i None) no-job .phase)) jobs))),
-  (λ i. ap (λ (w : ℕ). has w i) waiting ∙ (sound .4 i ∙ sym (ap (λ (js : List (Option Job)). is-waiting (valueOr (getD js i None) no-job .phase)) jobs))),
+  (λ i. ap (λ (w : ℕ). has w i) ready ∙ (sound .3 i ∙ sym (ap (λ (js : List (Option Job)). is-ready (valueOr
+      (getD js i None) no-job .phase)) jobs))),
+  (λ i. ap (λ (w : ℕ). has w i) waiting ∙ (sound .4 i ∙ sym (ap (λ (js : List (Option Job)). is-waiting (valueOr
+      (getD js i None) no-job .phase)) jobs))),
 )
 
 module _ (tasks : List Figures) (b supplied : Board) (chosen : Option ℕ) (sound : Sound tasks b) (right : Chosen tasks (state-of b) chosen)
@@ -88,14 +97,16 @@ module _ (tasks : List Figures) (b supplied : Board) (chosen : Option ℕ) (soun
   -- A waiting job does not run.
   not-running : (i : ℕ) → is-waiting (job (state-of b) i .phase) ≡ true → runs chosen i ≡ false
   not-running i w =
-      ⊎-elim (λ (r : runs chosen i ≡ true). absurd (ready-not-waiting (job (state-of b) i .phase) (running-is-ready chosen i right r) w)) (λ r. r)
+      ⊎-elim (λ (r : runs chosen i ≡ true). absurd (ready-not-waiting (job (state-of b) i .phase)
+      (running-is-ready chosen i right r) w)) (λ r. r)
       (cases-bool (runs chosen i))
 
   -- So it is as it was after the supply.
   still : (i : ℕ) → runs chosen i ≡ false → job (state-of supplied) i ≡ job (state-of b) i
   still i r =
       ap (λ (s : State). valueOr (s .latest i) no-job) state
-      ∙ ap (λ (t : Bool). valueOr (cond t (Some (ticked (getD tasks i no-task) true (job (state-of b) i))) (getD (b .jobs) i None)) no-job) r
+      ∙ ap (λ (t : Bool). valueOr (cond t (Some (ticked (getD tasks i no-task) true (job (state-of b) i))) (getD
+      (b .jobs) i None)) no-job) r
 
   waits : (i : ℕ) → has (b .waiting) i ≡ true → is-waiting (job (state-of b) i .phase) ≡ true
   waits i h = sym (sound .4 i) ∙ h
@@ -107,7 +118,8 @@ module _ (tasks : List Figures) (b supplied : Board) (chosen : Option ℕ) (soun
   late : (i : ℕ) → Bool
   late i = overdue (getD tasks i no-task) (counted (runs chosen i) (job (state-of b) i))
 
-  late-is : (i : ℕ) → (has (b .waiting) i && overdue (getD tasks i no-task) (counted false (job (state-of supplied) i))) ≡ (ltb i (length tasks) && late i)
+  late-is : (i : ℕ) → (has (b .waiting) i && overdue (getD tasks i no-task) (counted false (job (state-of supplied) i))) ≡ (ltb i
+      (length tasks) && late i)
   unfolding late
   late-is i =
       ⊎-elim
@@ -115,11 +127,13 @@ module _ (tasks : List Figures) (b supplied : Board) (chosen : Option ℕ) (soun
       ap (λ (t : Bool). t && overdue (getD tasks i no-task) (counted false (job (state-of supplied) i))) h
       ∙ (ap (λ (j : Job). overdue (getD tasks i no-task) (counted false j)) (still i (not-running i (waits i h)))
       ∙ (sym (ap (λ (t : Bool). overdue (getD tasks i no-task) (counted t (job (state-of b) i))) (not-running i (waits i h)))
-      ∙ sym (ap (λ (t : Bool). t && late i) (lt-ltb i (length tasks) (open-inside tasks b sound i (waiting-opens (job (state-of b) i .phase) (waits i h))))))))
+      ∙ sym (ap (λ (t : Bool). t && late i) (lt-ltb i (length tasks) (open-inside tasks b sound i (waiting-opens (job
+      (state-of b) i .phase) (waits i h))))))))
       (λ (h : has (b .waiting) i ≡ false).
       and-left (has (b .waiting) i) (overdue (getD tasks i no-task) (counted false (job (state-of supplied) i))) h
       ∙ sym (and-right (ltb i (length tasks)) (late i)
-      (ap (λ (t : Bool). t && eqb (counted (runs chosen i) (job (state-of b) i) .waited) (getD tasks i no-task .suspension)) (sym (sound .4 i) ∙ h))))
+      (ap (λ (t : Bool). t && eqb (counted (runs chosen i) (job (state-of b) i) .waited) (getD tasks i no-task .suspension)) (sym
+      (sound .4 i) ∙ h))))
       (cases-bool (has (b .waiting) i))
 
   pub forced-word : (forced : ℕ)
@@ -129,7 +143,8 @@ module _ (tasks : List Figures) (b supplied : Board) (chosen : Option ℕ) (soun
   forced-word forced bits = word-unique (length tasks) forced late (λ i. bits i ∙ late-is i)
 
   -- The record of a task after both halves.
-  moved : (i : ℕ) → cond (has (b .waiting) i) (Some (ticked (getD tasks i no-task) false (job (state-of supplied) i))) (getD (supplied .jobs) i None)
+  moved : (i : ℕ) → cond (has (b .waiting) i) (Some (ticked (getD tasks i no-task) false (job (state-of supplied) i))) (getD
+      (supplied .jobs) i None)
       ≡ mapped (ticked (getD tasks i no-task) (runs chosen i)) (getD (b .jobs) i None)
   moved i =
       let f = getD tasks i no-task in
@@ -184,7 +199,11 @@ module _ (tasks : List Figures) (chosen : Option ℕ) (s : State) (granted : eqb
       ap (λ (e : Bool). answered e forced) p
       ∙ (ap (answered (ends tasks chosen s)) q ∙ sym (ap (λ (r : Result Ticked Refusal × State). r .0) passes))
 
-  pub tick-state : (after : State) → after ≡ record { clock = s .clock + 1; latest = λ i. mapped (ticked (getD tasks i no-task) (runs chosen i)) (s .latest i) }
+  pub tick-state : (after : State) → after ≡ record {
+    clock = s .clock + 1;
+    latest = λ i. mapped (ticked (getD tasks i no-task)
+        (runs chosen i)) (s .latest i);
+  }
       → after ≡ advance tasks chosen s .1
   unfolding later-state
   tick-state after p = p ∙ sym (ap (λ (r : Result Ticked Refusal × State). r .1) passes)

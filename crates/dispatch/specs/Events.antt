@@ -12,11 +12,23 @@ use Rattle.dispatch.specs.declared.event.Event.the-variants.{Suspend, Wake, Fi
 
 -- A ready job that was given one tick more: it ends if that makes C.
 abbrev pub supplied : ℕ → Job → Job
-supplied execution j = record { release = j .release; phase = cond (eqb (j .given + 1) execution) Closed Ready; given = j .given + 1; waited = j .waited }
+supplied execution j = record {
+  release = j .release;
+  phase = cond (eqb
+      (j .given + 1) execution) Closed Ready;
+  given = j .given + 1;
+  waited = j .waited;
+}
 
 -- A waiting job that has waited one tick more: it becomes ready if that makes S.
 abbrev pub delayed : ℕ → Job → Job
-delayed suspension j = record { release = j .release; phase = cond (eqb (j .waited + 1) suspension) Ready Waiting; given = j .given; waited = j .waited + 1 }
+delayed suspension j = record {
+  release = j .release;
+  phase = cond (eqb
+      (j .waited + 1) suspension) Ready Waiting;
+  given = j .given;
+  waited = j .waited + 1;
+}
 
 -- What an event makes of a job, by its phase.
 abbrev pub moved-in : Phase → Figures → Event → Job → Job

@@ -1,6 +1,7 @@
 -- What a run stands for, and what checking answers.
 use Prim.Native.Nat.{ℕ, _<_}
 use mathlib.Core.Path.{_≡_}
+use mathlib.Core.List.{List}
 use denote.Ref.{now}
 use lib.IntN.{ℤ, pos}
 use lib.ListN.{length, getD}
@@ -9,6 +10,7 @@ use Rattle.std.specs.declared.result.Result.{Result}
 use Rattle.admission.specs.Views.{points-of, tasks-of}
 use Rattle.admission.specs.declared.accepted.Accepted.{Accepted}
 use Rattle.model.specs.State.{State}
+use Rattle.model.specs.declared.figures.Figures.{Figures}
 use Rattle.model.specs.declared.refusal.Refusal.{Refusal}
 use Rattle.model.specs.declared.refusal.Refusal.the-variants.{OtherPoints}
 use Rattle.dispatch.specs.Sound.{state-of}
@@ -28,6 +30,10 @@ module _ {R : Type 0} where
   -- The set of a run.
   abbrev pub of-set : Run R → Accepted
   of-set r = now (r .set)
+
+  -- The tasks of its set.
+  abbrev pub set-tasks : Run R → List Figures
+  set-tasks r = tasks-of (of-set r)
 
   -- The rule of a run.
   abbrev pub of-rule : Run R → R

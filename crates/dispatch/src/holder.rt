@@ -26,8 +26,12 @@ pub struct Entry {
 
 // Makes the calls of all entries in their order, and writes the answers.
 fn make_all<R: OrderRule>(run: &mut Run<'_, R>, entries: &mut [Entry])
-    ensures entries { λ _. ⌜ now (entries .exit) ≡ filled (tasks-of (of-set (now (run .entry)))) (R·OrderRule .before (of-rule (now (run .entry)))) (state (now (run .entry))) (now (entries .entry)) ⌝ }
-    ensures state { λ _. ⌜ state (now (run .exit)) ≡ after (tasks-of (of-set (now (run .entry)))) (R·OrderRule .before (of-rule (now (run .entry)))) (state (now (run .entry))) (calls (now (entries .entry))) ⌝ }
+    ensures entries { λ _. ⌜ now (entries .exit)
+        ≡ filled (tasks-of (of-set (now (run .entry)))) (R·OrderRule .before (of-rule (now (run .entry)))) (state
+        (now (run .entry))) (now (entries .entry)) ⌝ }
+    ensures state { λ _. ⌜ state (now (run .exit))
+        ≡ after (tasks-of (of-set (now (run .entry)))) (R·OrderRule .before (of-rule (now (run .entry)))) (state
+        (now (run .entry))) (calls (now (entries .entry))) ⌝ }
     ensures kept { λ _. ⌜ Kept (now (run .entry)) (now (run .exit)) ⌝ }
 {
     for slot in entries.iter_mut() {
@@ -35,18 +39,20 @@ fn make_all<R: OrderRule>(run: &mut Run<'_, R>, entries: &mut [Entry])
     }
 }
 
-/// Checks the set and the rule, starts a run, makes the calls one after the other, writes each answer beside its call, and closes the
-/// run. Refused exactly if the rule gives some task of the set another point, and then every entry is as it stood.
+/// Checks the set and the rule, starts a run, makes the calls one after the other, writes each answer beside its
+/// call, and closes the run. Refused exactly if the rule gives some task of the set another point, and then every
+/// entry is as it stood.
 ///
-/// Whatever the calls are, the transcript that pairs them with the answers handed back keeps all promises: every job ends
-/// within its bound, a job is given exactly what it was admitted with, no task gets more than its share of any ticks in a row, and
-/// the transcript is whole.
+/// Whatever the calls are, the transcript that pairs them with the answers handed back keeps all promises: every job
+/// ends within its bound, a job is given exactly what it was admitted with, no task gets more than its share of any
+/// ticks in a row, and the transcript is whole.
 pub fn hold<'s, R: OrderRule>(
     set: &'s Accepted,
     rule: &'s R,
     entries: &mut [Entry],
 ) -> Result<Totals, Refusal>
-    ensures outcome { λ r. ⌜ Held (now (set .entry)) (R·OrderRule .points (now (rule .entry))) (R·OrderRule .before (now (rule .entry))) (now (entries .entry)) (now (entries .exit)) r ⌝ }
+    ensures outcome { λ r. ⌜ Held (now (set .entry)) (R·OrderRule .points (now (rule .entry))) (R·OrderRule .before
+        (now (rule .entry))) (now (entries .entry)) (now (entries .exit)) r ⌝ }
 {
     model::run_law();
     let checked = match Checked::check(set, rule) {

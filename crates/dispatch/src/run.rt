@@ -9,8 +9,8 @@ mod calls;
 mod checking;
 mod questions;
 
-/// An accepted set and a rule that gives its tasks the points it was admitted with. Both are borrowed, so any number of runs can be
-/// started from them.
+/// An accepted set and a rule that gives its tasks the points it was admitted with. Both are borrowed, so any number
+/// of runs can be started from them.
 #[derive_where(Clone, Copy)]
 pub struct Checked<'s, R> {
     set: &'s Accepted,

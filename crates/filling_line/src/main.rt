@@ -1,5 +1,5 @@
-//! A bottle filling line: its tasks are entered one by one, the table is tested under several order rules, and the admitted line is
-//! dispatched.
+//! A bottle filling line: its tasks are entered one by one, the table is tested under several order rules, and the
+//! admitted line is dispatched.
 mod line;
 mod points;
 mod shift;

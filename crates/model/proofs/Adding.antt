@@ -15,7 +15,11 @@ use Rattle.model.specs.Figures.{Fit, AllFit, most-tasks, no-task}
 use Rattle.model.specs.Tables.{add}
 use Rattle.model.specs.declared.figures.Figures.{Figures}
 
-pub add-granted : (tasks : List Figures) (f : Figures) → length tasks < most-tasks → Fit f → add tasks f ≡ (Ok (length tasks), tasks ++ f ∷ [])
+pub add-granted : (tasks : List Figures) (f : Figures) → length tasks < most-tasks → Fit f → add tasks f ≡ (
+  Ok
+      (length tasks),
+  tasks ++ f ∷ [],
+)
 add-granted tasks f room fit =
     let a : leb most-tasks (length tasks) ≡ false = grind (arith, tells) in
     let b : eqb (f .execution) 0 ≡ false = grind (arith, tells) in

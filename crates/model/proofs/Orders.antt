@@ -21,7 +21,8 @@ module _ (x y z : ℤ) where
   pub itself : (t : Bool) → t ≡ false → cond (ltZ x x) true (cond (ltZ x x) false t) ≡ false
   itself t h = grind (arith, ints, tells)
 
-  pub one-way : (t u : Bool) → (x ≡ y → t ≡ not u) → cond (ltZ x y) true (cond (ltZ y x) false t) ≡ not (cond (ltZ y x) true (cond (ltZ x y) false u))
+  pub one-way : (t u : Bool) → (x ≡ y → t ≡ not u) → cond (ltZ x y) true (cond (ltZ y x) false t) ≡ not (cond (ltZ y x) true (cond
+      (ltZ x y) false u))
   one-way t u h = grind (arith, ints, tells)
 
   pub chained : (t u v : Bool) → (t ≡ true → u ≡ true → v ≡ true) → cond (ltZ x y) true (cond (ltZ y x) false t) ≡ true
@@ -31,19 +32,23 @@ module _ (x y z : ℤ) where
   pub under : (t : Bool) → x <ℤ y → cond (ltZ x y) true (cond (ltZ y x) false t) ≡ true
   under t h = grind (arith, ints, tells)
 
-pub lawful : (point : ℕ → ℤ) (tie : JobId → JobId → Bool) → ((i : ℕ) → InRange (point i)) → Tie point tie → Lawful point (by-points point tie)
+pub lawful : (point : ℕ → ℤ) (tie : JobId → JobId → Bool) → ((i : ℕ) → InRange (point i)) → Tie point tie → Lawful point
+    (by-points point tie)
 lawful point tie range t = record {
   in-range = range;
   not-itself = λ a. itself (priority point a) (priority point a) (priority point a) (tie a a) (t .not-itself a);
-  exactly-one = λ a b apart. one-way (priority point a) (priority point b) (priority point b) (tie a b) (tie b a) (λ e. t .exactly-one a b e apart);
-  transitive = λ a b c. chained (priority point a) (priority point b) (priority point c) (tie a b) (tie b c) (tie a c) (t .transitive a b c);
+  exactly-one = λ a b apart. one-way (priority point a) (priority point b) (priority point b) (tie a b) (tie b a)
+      (λ e. t .exactly-one a b e apart);
+  transitive = λ a b c. chained (priority point a) (priority point b) (priority point c) (tie a b) (tie b c) (tie a c)
+      (t .transitive a b c);
   by-priority = λ a b. under (priority point a) (priority point b) (priority point b) (tie a b);
 }
 
 -- Two jobs of one task with equal priority points are one job.
 same-job : (point : ℕ → ℤ) (a b : JobId) → priority point a ≡ priority point b → a .task ≡ b .task → a ≡ b
 same-job point a b p e =
-    let q : pos (a .release) +ℤ point (b .task) ≡ pos (b .release) +ℤ point (b .task) = subst (λ (i : ℕ). pos (a .release) +ℤ point i ≡ pos (b .release) +ℤ point (b .task)) e p in
+    let q : pos (a .release) +ℤ point (b .task) ≡ pos (b .release) +ℤ point (b .task) = subst (λ (i : ℕ). pos
+    (a .release) +ℤ point i ≡ pos (b .release) +ℤ point (b .task)) e p in
     let f : a .release ≡ b .release = omega (arith, ints) in
     let made : ℕ → ℕ → JobId = λ i r. record { task = i; release = r } in
     ap (λ (i : ℕ). made i (a .release)) e ∙ ap (made (b .task)) f
@@ -72,7 +77,8 @@ pub bottom-lawful : (point : ℕ → ℤ) → ((i : ℕ) → InRange (point i)) 
 bottom-lawful point range = lawful point lower-number range (lower-ties point)
 
 -- A layer over a lawful order: other points in the range, and ties to the order below.
-pub layer-lawful : (point below : ℕ → ℤ) (before : JobId → JobId → Bool) → ((i : ℕ) → InRange (point i)) → Lawful below before → Lawful point (by-points point before)
+pub layer-lawful : (point below : ℕ → ℤ) (before : JobId → JobId → Bool) → ((i : ℕ) → InRange (point i)) → Lawful below before
+    → Lawful point (by-points point before)
 layer-lawful point below before range l =
     lawful point before range
     (record { not-itself = l .not-itself; exactly-one = λ a b p apart. l .exactly-one a b apart; transitive = l .transitive })

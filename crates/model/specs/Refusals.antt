@@ -4,7 +4,10 @@ use mathlib.Core.List.{List, _++_}
 use lib.Chars.{codes}
 use Rattle.std.specs.Written.{decimal}
 use Rattle.model.specs.declared.refusal.Refusal.{Refusal}
-use Rattle.model.specs.declared.refusal.Refusal.the-variants.{TableFull, NoExecution, DeadlineOutsidePeriod, NoWarrant, OtherPoints, NoSuchTask, ReleasedTooSoon, NoReadyJob, SuspensionSpent, NotWaiting, ClockAtEnd, LogFull, UnknownCommand, OperandsCutOff, RuleOutOfRange, OutOfPlace, WrongLength}
+use Rattle.model.specs.declared.refusal.Refusal.the-variants.{TableFull, NoExecution, DeadlineOutsidePeriod, NoWarrant, OtherPoints}
+use Rattle.model.specs.declared.refusal.Refusal.the-variants.{NoSuchTask, ReleasedTooSoon, NoReadyJob, SuspensionSpent, NotWaiting}
+use Rattle.model.specs.declared.refusal.Refusal.the-variants.{ClockAtEnd, LogFull, UnknownCommand, OperandsCutOff, RuleOutOfRange}
+use Rattle.model.specs.declared.refusal.Refusal.the-variants.{OutOfPlace, WrongLength}
 
 -- The number of a refusal.
 abbrev pub number : Refusal → ℕ

@@ -22,7 +22,8 @@ count own other bound period offset = periods (((own -ℤ other) +ℤ pos bound)
 module _ (tasks : List Figures) (points : List ℤ) (bounds : List ℕ) where
   -- What task i takes from a job of task k at offset q: its count times its C, nothing for the own task.
   abbrev pub share : ℕ → ℕ → ℕ → ℕ
-  share k q i = cond (eqb i k) 0 (count (getD points k (pos 0)) (getD points i (pos 0)) (getD bounds i 0) (getD tasks i no-task .period) q * getD tasks i no-task .execution)
+  share k q i = cond (eqb i k) 0 (count (getD points k (pos 0)) (getD points i (pos 0)) (getD bounds i 0)
+      (getD tasks i no-task .period) q * getD tasks i no-task .execution)
 
   -- The total of task k at offset q: its own C + S + q, and what every other task takes.
   abbrev pub total : ℕ → ℕ → ℕ
@@ -34,7 +35,8 @@ pub record Warrant (tasks : List Figures) (points : List ℤ) (bounds : List ℕ
   pub one-each : length bounds ≡ length tasks
   pub positive : (k : ℕ) → k < length tasks → 1 ≤ getD bounds k 0
   pub in-time : (k : ℕ) → k < length tasks → getD bounds k 0 ≤ getD tasks k no-task .deadline
-  pub covered : (k : ℕ) → k < length tasks → (q : ℕ) × (q < getD tasks k no-task .deadline) × (total tasks points bounds k q ≤ getD bounds k 0)
+  pub covered : (k : ℕ) → k < length tasks → (q : ℕ) × (q < getD tasks k no-task .deadline) ×
+      (total tasks points bounds k q ≤ getD bounds k 0)
 
 -- The smallest bounds: a warrant, and in every warrant each bound is at least as large.
 pub record Smallest (tasks : List Figures) (points : List ℤ) (bounds : List ℕ) : Type 0 where

@@ -8,9 +8,9 @@ use rules::LARGEST;
 use rules::OrderRule;
 use rules::SMALLEST;
 
-/// A rule over borrowed points. A number past the list has point 0, and a listed point beyond an end of the range of points
-/// counts as that end. Of jobs with equal priority points the one with the higher task number goes first, and of two jobs of
-/// one task the one that was released first.
+/// A rule over borrowed points. A number past the list has point 0, and a listed point beyond an end of the range of
+/// points counts as that end. Of jobs with equal priority points the one with the higher task number goes first, and
+/// of two jobs of one task the one that was released first.
 #[derive(Clone, Copy)]
 pub struct HigherFirst<'p> {
     points: &'p [i32],

@@ -28,7 +28,8 @@ filled-none p point e k =
     subst (λ (xs : List ℤ). getD xs k (pos 0) ≡ cond (ltb k 0) (point k) (pos 0)) (sym e)
     (each-of-zeros (λ z. z ≡ cond (ltb k 0) (point k) (pos 0)) empty most-tasks k)
 
-pub filled-more : (p q : Points) (n : ℕ) (point : ℕ → ℤ) (x : ℤ) → q .at ≡ set (p .at) n x → n < most-tasks → x ≡ point n → Filled p n point → Filled q (n + 1) point
+pub filled-more : (p q : Points) (n : ℕ) (point : ℕ → ℤ) (x : ℤ) → q .at ≡ set (p .at) n x → n < most-tasks → x ≡ point n
+    → Filled p n point → Filled q (n + 1) point
 filled-more p q n point x put h e all k =
     let inside : n < length (p .at) = omega (arith, p .room) in
     let here : getD (set (p .at) n x) n (pos 0) ≡ cond (ltb n (n + 1)) (point n) (pos 0) =

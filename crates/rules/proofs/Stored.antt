@@ -9,7 +9,8 @@ each-of-zeros P h zero k = h
 each-of-zeros P h (suc n) zero = h
 each-of-zeros P h (suc n) (suc k) = each-of-zeros P h n k
 
-pub each-after-set : (P : ℤ → Type 0) (d : ℤ) (xs : List ℤ) (i : ℕ) (x : ℤ) → P x → ((k : ℕ) → P (getD xs k d)) → (k : ℕ) → P (getD (set xs i x) k d)
+pub each-after-set : (P : ℤ → Type 0) (d : ℤ) (xs : List ℤ) (i : ℕ) (x : ℤ) → P x → ((k : ℕ) → P (getD xs k d)) → (k : ℕ) → P (getD
+    (set xs i x) k d)
 each-after-set P d [] i x h all k = all k
 each-after-set P d (y ∷ ys) zero x h all zero = h
 each-after-set P d (y ∷ ys) zero x h all (suc k) = all (suc k)

@@ -14,8 +14,8 @@ use model::Figures;
 use model::JobId;
 use tasks::Table;
 
-/// The point of a task is its D plus D of all lower-numbered tasks, so that a lower number weighs heavily; equal priority
-/// points go to the lower number.
+/// The point of a task is its D plus D of all lower-numbered tasks, so that a lower number weighs heavily; equal
+/// priority points go to the lower number.
 #[derive(Clone, Copy)]
 pub struct Level {
     points: Points,

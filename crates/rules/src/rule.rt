@@ -10,8 +10,8 @@ use model::JobId;
 /// An order between jobs: what it means, and the laws that it shows. A job is known by its task number and its release
 /// clock; its priority point is the release clock plus the task's point.
 ///
-/// Whatever is admitted or dispatched under a rule is proved from these members alone, so a rule of one's own may be of any
-/// shape: it may borrow what it looks at, have const parameters, and be a value that may not be dropped.
+/// Whatever is admitted or dispatched under a rule is proved from these members alone, so a rule of one's own may be
+/// of any shape: it may borrow what it looks at, have const parameters, and be a value that may not be dropped.
 pub trait OrderRule {
     /// The point of every task number.
     ghost points: { Self → ℕ → ℤ };
@@ -19,8 +19,8 @@ pub trait OrderRule {
     /// Whether the first job goes before the second.
     ghost before: { Self → Job → Job → Bool };
 
-    /// The laws: points are in −1 000 000 000 … 1 000 000 000; of two different jobs exactly one goes before the other and
-    /// none before itself; the relation is transitive; the smaller priority point goes first.
+    /// The laws: points are in −1 000 000 000 … 1 000 000 000; of two different jobs exactly one goes before the
+    /// other and none before itself; the relation is transitive; the smaller priority point goes first.
     ghost laws: { (s : Self) → Lawful (points s) (before s) };
 
     /// The point of a task number. No number is refused.

@@ -12,8 +12,8 @@ mod making;
 /// The heaviest weight; the lightest is its negative.
 pub const HEAVIEST: i32 = 16;
 
-/// A layer over a rule, which it borrows: to the point below it adds its weight times C, or times S, of the task; a sum beyond
-/// an end of the range of points stops there. On equal priority points the rule below decides.
+/// A layer over a rule, which it borrows: to the point below it adds its weight times C, or times S, of the task; a
+/// sum beyond an end of the range of points stops there. On equal priority points the rule below decides.
 #[derive_where(Clone, Copy)]
 pub struct Weighted<'r, R> {
     points: Points,
@@ -25,7 +25,8 @@ pub impl<'r, R: OrderRule> OrderRule for Weighted<'r, R> as WeightedOrder {
 
     ghost before = { λ s. by-points (point-of (s .points)) (R·OrderRule .before (now (s .below))) };
 
-    ghost laws = { λ s. layer-lawful (point-of (s .points)) (R·OrderRule .points (now (s .below))) (R·OrderRule .before (now (s .below))) (in-range (s .points)) (R·OrderRule .laws (now (s .below))) };
+    ghost laws = { λ s. layer-lawful (point-of (s .points)) (R·OrderRule .points (now (s .below)))
+        (R·OrderRule .before (now (s .below))) (in-range (s .points)) (R·OrderRule .laws (now (s .below))) };
 
     fn point(&self, task: u32) -> i32 {
         self.points.get(task)

@@ -14,7 +14,8 @@ use model::Refusal;
 impl Board {
     // Whether fewer than a period of ticks have passed since the latest release.
     fn released_within(&self, task: u32, period: u16) -> bool
-        ensures value { λ r. ⌜ r ≡ too-soon period (now (self .entry) .clock) (state-of (now (self .entry)) .latest task) ⌝ }
+        ensures value { λ r. ⌜ r
+            ≡ too-soon period (now (self .entry) .clock) (state-of (now (self .entry)) .latest task) ⌝ }
     {
         match self.latest(task) {
             Some(job) => self.clock.saturating_sub(job.release) < u32::from(period),
@@ -27,7 +28,8 @@ impl Board {
         requires fit { ⌜ Tasks (now tasks) ⌝ }
         ensures sound { λ _. ⌜ Sound (now (tasks .entry)) (now (self .exit)) ⌝ }
         ensures answer { λ r. ⌜ r ≡ release (now (tasks .entry)) task (state-of (now (self .entry))) .0 ⌝ }
-        ensures state { λ _. ⌜ state-of (now (self .exit)) ≡ release (now (tasks .entry)) task (state-of (now (self .entry))) .1 ⌝ }
+        ensures state { λ _. ⌜ state-of (now (self .exit))
+            ≡ release (now (tasks .entry)) task (state-of (now (self .entry))) .1 ⌝ }
     {
         if task as usize >= tasks.len() {
             return Err(Refusal::NoSuchTask);
@@ -45,7 +47,8 @@ impl Board {
         requires fit { ⌜ Tasks (now tasks) ⌝ }
         ensures sound { λ _. ⌜ Sound (now (tasks .entry)) (now (self .exit)) ⌝ }
         ensures answer { λ r. ⌜ r ≡ wake (now (tasks .entry)) task (state-of (now (self .entry))) .0 ⌝ }
-        ensures state { λ _. ⌜ state-of (now (self .exit)) ≡ wake (now (tasks .entry)) task (state-of (now (self .entry))) .1 ⌝ }
+        ensures state { λ _. ⌜ state-of (now (self .exit))
+            ≡ wake (now (tasks .entry)) task (state-of (now (self .entry))) .1 ⌝ }
     {
         if task as usize >= tasks.len() {
             return Err(Refusal::NoSuchTask);
@@ -64,7 +67,8 @@ impl Board {
         requires chosen { ⌜ Chosen (now tasks) (state-of (now self)) chosen ⌝ }
         ensures sound { λ _. ⌜ Sound (now (tasks .entry)) (now (self .exit)) ⌝ }
         ensures answer { λ r. ⌜ r ≡ suspend (now (tasks .entry)) chosen (state-of (now (self .entry))) .0 ⌝ }
-        ensures state { λ _. ⌜ state-of (now (self .exit)) ≡ suspend (now (tasks .entry)) chosen (state-of (now (self .entry))) .1 ⌝ }
+        ensures state { λ _. ⌜ state-of (now (self .exit))
+            ≡ suspend (now (tasks .entry)) chosen (state-of (now (self .entry))) .1 ⌝ }
     {
         let Some(task) = chosen else {
             return Err(Refusal::NoReadyJob);
@@ -86,7 +90,8 @@ impl Board {
         requires chosen { ⌜ Chosen (now tasks) (state-of (now self)) chosen ⌝ }
         ensures sound { λ _. ⌜ Sound (now (tasks .entry)) (now (self .exit)) ⌝ }
         ensures answer { λ r. ⌜ r ≡ complete (now (tasks .entry)) chosen (state-of (now (self .entry))) .0 ⌝ }
-        ensures state { λ _. ⌜ state-of (now (self .exit)) ≡ complete (now (tasks .entry)) chosen (state-of (now (self .entry))) .1 ⌝ }
+        ensures state { λ _. ⌜ state-of (now (self .exit))
+            ≡ complete (now (tasks .entry)) chosen (state-of (now (self .entry))) .1 ⌝ }
     {
         let Some(task) = chosen else {
             return Err(Refusal::NoReadyJob);

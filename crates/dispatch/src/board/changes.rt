@@ -84,8 +84,10 @@ impl Board {
         requires room { ⌜ length (now self .jobs) ≡ 32 ⌝ }
         ensures clock { λ _. ⌜ now (self .exit) .clock ≡ now (self .entry) .clock ⌝ }
         ensures jobs { λ _. ⌜ now (self .exit) .jobs ≡ set (now (self .entry) .jobs) task (Some job) ⌝ }
-        ensures ready { λ _. ⌜ ((i : ℕ) → has (now (self .exit) .ready) i ≡ cond (eqb i task) (is-ready (job .phase)) (has (now (self .entry) .ready) i)) ⌝ }
-        ensures waiting { λ _. ⌜ ((i : ℕ) → has (now (self .exit) .waiting) i ≡ cond (eqb i task) (is-waiting (job .phase)) (has (now (self .entry) .waiting) i)) ⌝ }
+        ensures ready { λ _. ⌜ ((i : ℕ) → has (now (self .exit) .ready) i
+            ≡ cond (eqb i task) (is-ready (job .phase)) (has (now (self .entry) .ready) i)) ⌝ }
+        ensures waiting { λ _. ⌜ ((i : ℕ) → has (now (self .exit) .waiting) i
+            ≡ cond (eqb i task) (is-waiting (job .phase)) (has (now (self .entry) .waiting) i)) ⌝ }
     {
         self.jobs[task as usize] = Some(job);
         self.ready = told(self.ready, task, is_ready(job.phase));
@@ -97,10 +99,14 @@ impl Board {
         requires sound { ⌜ Sound (now tasks) (now self) ⌝ }
         requires within { ⌜ task < length (now tasks) ⌝ }
         requires few { ⌜ length (now tasks) ≤ most-tasks ⌝ }
-        requires kept { ⌜ in-bounds (getD (now tasks) task no-task) (now self .clock) (Some (moved (getD (now tasks) task no-task) event (job (state-of (now self)) task))) ≡ true ⌝ }
+        requires kept { ⌜ in-bounds (getD (now tasks) task no-task) (now self .clock) (Some (moved (getD
+            (now tasks) task no-task) event (job (state-of (now self)) task))) ≡ true ⌝ }
         ensures sound { λ _. ⌜ Sound (now (tasks .entry)) (now (self .exit)) ⌝ }
-        ensures value { λ r. ⌜ r ≡ moved (getD (now (tasks .entry)) task no-task) event (job (state-of (now (self .entry))) task) ⌝ }
-        ensures state { λ _. ⌜ state-of (now (self .exit)) ≡ placed task (moved (getD (now (tasks .entry)) task no-task) event (job (state-of (now (self .entry))) task)) (state-of (now (self .entry))) ⌝ }
+        ensures value { λ r. ⌜ r
+            ≡ moved (getD (now (tasks .entry)) task no-task) event (job (state-of (now (self .entry))) task) ⌝ }
+        ensures state { λ _. ⌜ state-of (now (self .exit))
+            ≡ placed task (moved (getD (now (tasks .entry)) task no-task) event (job (state-of (now
+            (self .entry))) task)) (state-of (now (self .entry))) ⌝ }
     {
         let job = after(&self.job(task), event, &tasks[task as usize]);
         self.put(task, job);
@@ -113,7 +119,9 @@ impl Board {
         requires within { ⌜ task < length (now tasks) ⌝ }
         requires fit { ⌜ Tasks (now tasks) ⌝ }
         ensures sound { λ _. ⌜ Sound (now (tasks .entry)) (now (self .exit)) ⌝ }
-        ensures state { λ _. ⌜ state-of (now (self .exit)) ≡ placed task (record { release = now (self .entry) .clock; phase = Ready; given = 0; waited = 0 }) (state-of (now (self .entry))) ⌝ }
+        ensures state { λ _. ⌜ state-of (now (self .exit))
+            ≡ placed task (record { release = now (self .entry) .clock; phase = Ready; given = 0; waited = 0 })
+            (state-of (now (self .entry))) ⌝ }
     {
         let release = self.clock;
         let phase = Phase::Ready;
@@ -136,14 +144,16 @@ impl Board {
 
     /// The word of the ready tasks.
     pub(crate) fn ready(&self) -> u32
-        ensures value { λ r. ⌜ ((tasks : List Row) → Sound tasks (now (self .entry)) → r ≡ ready-word tasks (state-of (now (self .entry)))) ⌝ }
+        ensures value { λ r. ⌜ ((tasks : List Row) → Sound tasks (now (self .entry)) → r
+            ≡ ready-word tasks (state-of (now (self .entry)))) ⌝ }
     {
         self.ready
     }
 
     /// The word of the tasks with an open job.
     pub(crate) fn open_word(&self) -> u32
-        ensures value { λ r. ⌜ ((tasks : List Row) → Sound tasks (now (self .entry)) → r ≡ open-word tasks (state-of (now (self .entry)))) ⌝ }
+        ensures value { λ r. ⌜ ((tasks : List Row) → Sound tasks (now (self .entry)) → r
+            ≡ open-word tasks (state-of (now (self .entry)))) ⌝ }
     {
         words::union(self.ready, self.waiting)
     }

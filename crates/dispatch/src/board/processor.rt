@@ -11,7 +11,9 @@ impl Board {
     /// The task whose job has the processor: of the ready jobs the one that goes before all others.
     pub(crate) fn processor<R: OrderRule>(&self, tasks: &[Figures], rule: &R) -> Option<u32>
         requires sound { ⌜ Sound (now tasks) (now self) ⌝ }
-        ensures value { λ r. ⌜ r ≡ processor (now (tasks .entry)) (R·OrderRule .before (now (rule .entry))) (state-of (now (self .entry))) ⌝ }
+        ensures value { λ r. ⌜ r
+            ≡ processor (now (tasks .entry)) (R·OrderRule .before (now (rule .entry))) (state-of (now
+            (self .entry))) ⌝ }
         ensures chosen { λ r. ⌜ Chosen (now (tasks .entry)) (state-of (now (self .entry))) r ⌝ }
     {
         let mut rest = self.ready;

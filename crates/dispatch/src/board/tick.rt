@@ -25,8 +25,12 @@ impl Board {
         requires fit { ⌜ Tasks (now tasks) ⌝ }
         requires chosen { ⌜ Chosen (now tasks) (state-of (now self)) (Some task) ⌝ }
         ensures sound { λ _. ⌜ Sound (now (tasks .entry)) (now (self .exit)) ⌝ }
-        ensures answer { λ r. ⌜ r ≡ spent (getD (now (tasks .entry)) task no-task) true (counted true (job (state-of (now (self .entry))) task)) ⌝ }
-        ensures state { λ _. ⌜ state-of (now (self .exit)) ≡ placed task (ticked (getD (now (tasks .entry)) task no-task) true (job (state-of (now (self .entry))) task)) (state-of (now (self .entry))) ⌝ }
+        ensures answer { λ r. ⌜ r
+            ≡ spent (getD (now (tasks .entry)) task no-task) true (counted true (job (state-of (now
+            (self .entry))) task)) ⌝ }
+        ensures state { λ _. ⌜ state-of (now (self .exit))
+            ≡ placed task (ticked (getD (now (tasks .entry)) task no-task) true (job (state-of (now
+            (self .entry))) task)) (state-of (now (self .entry))) ⌝ }
     {
         let job = self.on(tasks, task, Event::Tick);
         !is_ready(job.phase)
@@ -39,8 +43,12 @@ impl Board {
         requires within { ⌜ task < length (now tasks) ⌝ }
         requires waits { ⌜ is-waiting (job (state-of (now self)) task .phase) ≡ true ⌝ }
         ensures sound { λ _. ⌜ Sound (now (tasks .entry)) (now (self .exit)) ⌝ }
-        ensures answer { λ r. ⌜ r ≡ overdue (getD (now (tasks .entry)) task no-task) (counted false (job (state-of (now (self .entry))) task)) ⌝ }
-        ensures state { λ _. ⌜ state-of (now (self .exit)) ≡ placed task (ticked (getD (now (tasks .entry)) task no-task) false (job (state-of (now (self .entry))) task)) (state-of (now (self .entry))) ⌝ }
+        ensures answer { λ r. ⌜ r
+            ≡ overdue (getD (now (tasks .entry)) task no-task) (counted false (job (state-of (now
+            (self .entry))) task)) ⌝ }
+        ensures state { λ _. ⌜ state-of (now (self .exit))
+            ≡ placed task (ticked (getD (now (tasks .entry)) task no-task) false (job (state-of (now
+            (self .entry))) task)) (state-of (now (self .entry))) ⌝ }
     {
         let job = self.on(tasks, task, Event::Tick);
         is_ready(job.phase)
@@ -53,7 +61,8 @@ impl Board {
         requires chosen { ⌜ Chosen (now tasks) (state-of (now self)) chosen ⌝ }
         ensures sound { λ _. ⌜ Sound (now (tasks .entry)) (now (self .exit)) ⌝ }
         ensures answer { λ r. ⌜ r ≡ ends (now (tasks .entry)) chosen (state-of (now (self .entry))) ⌝ }
-        ensures state { λ _. ⌜ state-of (now (self .exit)) ≡ supplied-state (now (tasks .entry)) chosen (state-of (now (self .entry))) ⌝ }
+        ensures state { λ _. ⌜ state-of (now (self .exit))
+            ≡ supplied-state (now (tasks .entry)) chosen (state-of (now (self .entry))) ⌝ }
     {
         match chosen {
             Some(task) => self.give(tasks, task),
@@ -67,8 +76,11 @@ impl Board {
         requires fit { ⌜ Tasks (now tasks) ⌝ }
         requires waits { ⌜ ((i : ℕ) → has waiting i ≡ true → is-waiting (job (state-of (now self)) i .phase) ≡ true) ⌝ }
         ensures sound { λ _. ⌜ Sound (now (tasks .entry)) (now (self .exit)) ⌝ }
-        ensures answer { λ r. ⌜ ((i : ℕ) → has r i ≡ (has waiting i && overdue (getD (now (tasks .entry)) i no-task) (counted false (job (state-of (now (self .entry))) i)))) ⌝ }
-        ensures state { λ _. ⌜ state-of (now (self .exit)) ≡ delayed-state (now (tasks .entry)) (has waiting) (state-of (now (self .entry))) ⌝ }
+        ensures answer { λ r. ⌜ ((i : ℕ) → has r i
+            ≡ (has waiting i && overdue (getD (now (tasks .entry)) i no-task) (counted false (job (state-of (now
+            (self .entry))) i)))) ⌝ }
+        ensures state { λ _. ⌜ state-of (now (self .exit))
+            ≡ delayed-state (now (tasks .entry)) (has waiting) (state-of (now (self .entry))) ⌝ }
     {
         let mut rest = waiting;
         let mut forced = 0;
@@ -91,7 +103,8 @@ impl Board {
         requires chosen { ⌜ Chosen (now tasks) (state-of (now self)) chosen ⌝ }
         ensures sound { λ _. ⌜ Sound (now (tasks .entry)) (now (self .exit)) ⌝ }
         ensures answer { λ r. ⌜ r ≡ advance (now (tasks .entry)) chosen (state-of (now (self .entry))) .0 ⌝ }
-        ensures state { λ _. ⌜ state-of (now (self .exit)) ≡ advance (now (tasks .entry)) chosen (state-of (now (self .entry))) .1 ⌝ }
+        ensures state { λ _. ⌜ state-of (now (self .exit))
+            ≡ advance (now (tasks .entry)) chosen (state-of (now (self .entry))) .1 ⌝ }
     {
         if self.clock == LAST_CLOCK {
             return Err(Refusal::ClockAtEnd);

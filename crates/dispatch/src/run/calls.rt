@@ -1,7 +1,6 @@
 //! The calls on a run.
 ghost use mathlib.Core.Path.{_≡_};
-ghost use Rattle.admission.specs.Views.{tasks-of};
-ghost use Rattle.dispatch.specs.Runs.{Kept, of-rule, of-set, state};
+ghost use Rattle.dispatch.specs.Runs.{Kept, of-rule, set-tasks, state};
 ghost use Rattle.dispatch.specs.Sound.{Sound};
 ghost use Rattle.model.specs.Figures.{Tasks};
 ghost use Rattle.model.specs.State.{State};
@@ -64,40 +63,46 @@ fn passed(result: Result<Ticked, Refusal>) -> Answer
 impl<'s, R: OrderRule> Run<'s, R> {
     // The tasks of the set.
     fn tasks(&self) -> &'s [Figures]
-        ensures value { λ r. ⌜ now r ≡ tasks-of (of-set (now (self .entry))) ⌝ }
+        ensures value { λ r. ⌜ now r ≡ set-tasks (now (self .entry)) ⌝ }
         ensures fit { λ r. ⌜ Tasks (now r) ⌝ }
         ensures sound { λ r. ⌜ Sound (now r) (now (self .entry) .board) ⌝ }
     {
         self.set.tasks()
     }
 
-    /// Opens a job of a task and answers the clock. Refused, in this order: no task has the number; fewer than T ticks since
-    /// its last granted release.
+    /// Opens a job of a task and answers the clock. Refused, in this order: no task has the number; fewer than T
+    /// ticks since its last granted release.
     pub fn release(&mut self, task: u32) -> Result<u32, Refusal>
-        ensures answer { λ r. ⌜ r ≡ release (tasks-of (of-set (now (self .entry)))) task (state (now (self .entry))) .0 ⌝ }
-        ensures state { λ _. ⌜ state (now (self .exit)) ≡ release (tasks-of (of-set (now (self .entry)))) task (state (now (self .entry))) .1 ⌝ }
+        ensures answer { λ r. ⌜ r ≡ release (set-tasks (now (self .entry))) task (state (now (self .entry))) .0 ⌝ }
+        ensures state { λ _. ⌜ state (now (self .exit))
+            ≡ release (set-tasks (now (self .entry))) task (state (now (self .entry))) .1 ⌝ }
         ensures kept { λ _. ⌜ Kept (now (self .entry)) (now (self .exit)) ⌝ }
     {
         let tasks = self.tasks();
         self.board.release(tasks, task)
     }
 
-    /// Wakes the waiting job of a task and answers the ticks that it has waited. Refused, in this order: no task has the number; the task
-    /// has no waiting job.
+    /// Wakes the waiting job of a task and answers the ticks that it has waited. Refused, in this order: no task has
+    /// the number; the task has no waiting job.
     pub fn wake(&mut self, task: u32) -> Result<u16, Refusal>
-        ensures answer { λ r. ⌜ r ≡ wake (tasks-of (of-set (now (self .entry)))) task (state (now (self .entry))) .0 ⌝ }
-        ensures state { λ _. ⌜ state (now (self .exit)) ≡ wake (tasks-of (of-set (now (self .entry)))) task (state (now (self .entry))) .1 ⌝ }
+        ensures answer { λ r. ⌜ r ≡ wake (set-tasks (now (self .entry))) task (state (now (self .entry))) .0 ⌝ }
+        ensures state { λ _. ⌜ state (now (self .exit))
+            ≡ wake (set-tasks (now (self .entry))) task (state (now (self .entry))) .1 ⌝ }
         ensures kept { λ _. ⌜ Kept (now (self .entry)) (now (self .exit)) ⌝ }
     {
         let tasks = self.tasks();
         self.board.wake(tasks, task)
     }
 
-    /// The job with the processor suspends itself; answers its task. Refused, in this order: no job is ready; the job has waited S
-    /// ticks.
+    /// The job with the processor suspends itself; answers its task. Refused, in this order: no job is ready; the job
+    /// has waited S ticks.
     pub fn wait(&mut self) -> Result<u32, Refusal>
-        ensures answer { λ r. ⌜ r ≡ wait (tasks-of (of-set (now (self .entry)))) (R·OrderRule .before (of-rule (now (self .entry)))) (state (now (self .entry))) .0 ⌝ }
-        ensures state { λ _. ⌜ state (now (self .exit)) ≡ wait (tasks-of (of-set (now (self .entry)))) (R·OrderRule .before (of-rule (now (self .entry)))) (state (now (self .entry))) .1 ⌝ }
+        ensures answer { λ r. ⌜ r
+            ≡ wait (set-tasks (now (self .entry))) (R·OrderRule .before (of-rule (now (self .entry)))) (state (now
+            (self .entry))) .0 ⌝ }
+        ensures state { λ _. ⌜ state (now (self .exit))
+            ≡ wait (set-tasks (now (self .entry))) (R·OrderRule .before (of-rule (now (self .entry)))) (state (now
+            (self .entry))) .1 ⌝ }
         ensures kept { λ _. ⌜ Kept (now (self .entry)) (now (self .exit)) ⌝ }
     {
         let tasks = self.tasks();
@@ -105,10 +110,15 @@ impl<'s, R: OrderRule> Run<'s, R> {
         self.board.suspend(tasks, chosen)
     }
 
-    /// The job with the processor ends; answers its task, its age and the ticks that it was given. Refused if no job is ready.
+    /// The job with the processor ends; answers its task, its age and the ticks that it was given. Refused if no job
+    /// is ready.
     pub fn finish(&mut self) -> Result<Ended, Refusal>
-        ensures answer { λ r. ⌜ r ≡ finish (tasks-of (of-set (now (self .entry)))) (R·OrderRule .before (of-rule (now (self .entry)))) (state (now (self .entry))) .0 ⌝ }
-        ensures state { λ _. ⌜ state (now (self .exit)) ≡ finish (tasks-of (of-set (now (self .entry)))) (R·OrderRule .before (of-rule (now (self .entry)))) (state (now (self .entry))) .1 ⌝ }
+        ensures answer { λ r. ⌜ r
+            ≡ finish (set-tasks (now (self .entry))) (R·OrderRule .before (of-rule (now (self .entry)))) (state (now
+            (self .entry))) .0 ⌝ }
+        ensures state { λ _. ⌜ state (now (self .exit))
+            ≡ finish (set-tasks (now (self .entry))) (R·OrderRule .before (of-rule (now (self .entry)))) (state (now
+            (self .entry))) .1 ⌝ }
         ensures kept { λ _. ⌜ Kept (now (self .entry)) (now (self .exit)) ⌝ }
     {
         let tasks = self.tasks();
@@ -116,11 +126,15 @@ impl<'s, R: OrderRule> Run<'s, R> {
         self.board.complete(tasks, chosen)
     }
 
-    /// Time moves on by one tick; answers the task whose job was given the tick or none, whether that job ended, and the tasks
-    /// whose jobs became ready by force. Refused if the clock is at its end.
+    /// Time moves on by one tick; answers the task whose job was given the tick or none, whether that job ended, and
+    /// the tasks whose jobs became ready by force. Refused if the clock is at its end.
     pub fn tick(&mut self) -> Result<Ticked, Refusal>
-        ensures answer { λ r. ⌜ r ≡ tick (tasks-of (of-set (now (self .entry)))) (R·OrderRule .before (of-rule (now (self .entry)))) (state (now (self .entry))) .0 ⌝ }
-        ensures state { λ _. ⌜ state (now (self .exit)) ≡ tick (tasks-of (of-set (now (self .entry)))) (R·OrderRule .before (of-rule (now (self .entry)))) (state (now (self .entry))) .1 ⌝ }
+        ensures answer { λ r. ⌜ r
+            ≡ tick (set-tasks (now (self .entry))) (R·OrderRule .before (of-rule (now (self .entry)))) (state (now
+            (self .entry))) .0 ⌝ }
+        ensures state { λ _. ⌜ state (now (self .exit))
+            ≡ tick (set-tasks (now (self .entry))) (R·OrderRule .before (of-rule (now (self .entry)))) (state (now
+            (self .entry))) .1 ⌝ }
         ensures kept { λ _. ⌜ Kept (now (self .entry)) (now (self .exit)) ⌝ }
     {
         let tasks = self.tasks();
@@ -130,8 +144,12 @@ impl<'s, R: OrderRule> Run<'s, R> {
 
     /// Makes a call that is given as a value; the answer is that of the call's own method.
     pub fn call(&mut self, call: Call) -> Answer
-        ensures answer { λ r. ⌜ r ≡ step (tasks-of (of-set (now (self .entry)))) (R·OrderRule .before (of-rule (now (self .entry)))) call (state (now (self .entry))) .0 ⌝ }
-        ensures state { λ _. ⌜ state (now (self .exit)) ≡ step (tasks-of (of-set (now (self .entry)))) (R·OrderRule .before (of-rule (now (self .entry)))) call (state (now (self .entry))) .1 ⌝ }
+        ensures answer { λ r. ⌜ r
+            ≡ step (set-tasks (now (self .entry))) (R·OrderRule .before (of-rule (now (self .entry)))) call (state
+            (now (self .entry))) .0 ⌝ }
+        ensures state { λ _. ⌜ state (now (self .exit))
+            ≡ step (set-tasks (now (self .entry))) (R·OrderRule .before (of-rule (now (self .entry)))) call (state
+            (now (self .entry))) .1 ⌝ }
         ensures kept { λ _. ⌜ Kept (now (self .entry)) (now (self .exit)) ⌝ }
     {
         match call {

@@ -13,7 +13,8 @@ use rules::OrderRule;
 impl<'s, R: OrderRule> Checked<'s, R> {
     /// Checks a rule against an accepted set. Refused exactly if the rule gives some task of the set another point.
     pub fn check(set: &'s Accepted, rule: &'s R) -> Result<Checked<'s, R>, Refusal>
-        ensures answer { λ r. ⌜ Matched (now (set .entry)) (now (rule .entry)) (R·OrderRule .points (now (rule .entry))) r ⌝ }
+        ensures answer { λ r. ⌜ Matched (now (set .entry)) (now (rule .entry)) (R·OrderRule .points (now
+            (rule .entry))) r ⌝ }
     {
         let points = set.points();
         for (task, point) in points.iter().enumerate() {

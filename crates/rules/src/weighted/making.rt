@@ -68,7 +68,8 @@ fn stopped(sum: i32) -> i32
 // The points of a layer.
 fn layer_points<R: OrderRule>(table: &Table, figure: Figure, weight: i32, below: &R) -> Points
     requires light { ⌜ allowed weight ≡ true ⌝ }
-    ensures value { λ r. ⌜ point-of r ≡ weighted-point (figure-of figure) (listed (now (table .entry))) weight (points (now (below .entry))) ⌝ }
+    ensures value { λ r. ⌜ point-of r
+        ≡ weighted-point (figure-of figure) (listed (now (table .entry))) weight (points (now (below .entry))) ⌝ }
 {
     let mut points = Points::zero();
     let tasks = table.as_slice();
@@ -80,24 +81,28 @@ fn layer_points<R: OrderRule>(table: &Table, figure: Figure, weight: i32, below:
 }
 
 impl<'r, R: OrderRule> Weighted<'r, R> {
-    /// The C-weight: adds `weight` times C for the tasks that the table has now. Refused if the weight is outside −16 … 16.
+    /// The C-weight: adds `weight` times C for the tasks that the table has now. Refused if the weight is outside −16
+    /// … 16.
     pub fn by_execution(
         table: &Table,
         weight: i32,
         below: &'r R,
     ) -> Result<Weighted<'r, R>, Refusal>
-        ensures answer { λ r. ⌜ Layered (λ f. f .execution) (listed (now (table .entry))) weight (now (below .entry)) (points (now (below .entry))) r ⌝ }
+        ensures answer { λ r. ⌜ Layered (λ f. f .execution) (listed (now (table .entry))) weight (now
+            (below .entry)) (points (now (below .entry))) r ⌝ }
     {
         Weighted::over(table, Figure::Execution, weight, below)
     }
 
-    /// The S-weight: adds `weight` times S for the tasks that the table has now. Refused if the weight is outside −16 … 16.
+    /// The S-weight: adds `weight` times S for the tasks that the table has now. Refused if the weight is outside −16
+    /// … 16.
     pub fn by_suspension(
         table: &Table,
         weight: i32,
         below: &'r R,
     ) -> Result<Weighted<'r, R>, Refusal>
-        ensures answer { λ r. ⌜ Layered (λ f. f .suspension) (listed (now (table .entry))) weight (now (below .entry)) (points (now (below .entry))) r ⌝ }
+        ensures answer { λ r. ⌜ Layered (λ f. f .suspension) (listed (now (table .entry))) weight (now
+            (below .entry)) (points (now (below .entry))) r ⌝ }
     {
         Weighted::over(table, Figure::Suspension, weight, below)
     }
@@ -108,7 +113,8 @@ impl<'r, R: OrderRule> Weighted<'r, R> {
         weight: i32,
         below: &'r R,
     ) -> Result<Weighted<'r, R>, Refusal>
-        ensures answer { λ r. ⌜ Layered (figure-of figure) (listed (now (table .entry))) weight (now (below .entry)) (points (now (below .entry))) r ⌝ }
+        ensures answer { λ r. ⌜ Layered (figure-of figure) (listed (now (table .entry))) weight (now (below .entry))
+            (points (now (below .entry))) r ⌝ }
     {
         if weight < -HEAVIEST || weight > HEAVIEST {
             return Err(Refusal::RuleOutOfRange);

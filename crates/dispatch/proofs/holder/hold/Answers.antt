@@ -21,7 +21,8 @@ returns g c =
     record {
       outcome = (
         matched .0,
-        made set (g .R·OrderRule .points (c .args .rule .now)) (before (c .args .rule .now)) (g .R·OrderRule .laws (c .args .rule .now)) (matched .0) (c .run-law .ensures)
+        made set (g .R·OrderRule .points (c .args .rule .now)) (before (c .args .rule .now)) (g .R·OrderRule .laws (c .args .rule .now))
+            (matched .0) (c .run-law .ensures)
             given (c .make-all .last .entries) (c .close .result) (state ended)
             (c .make-all .ensures .entries
             ∙ (ap₂ (λ st rule. filled (tasks-of st) (before rule) (state run) given) same-set same-rule
@@ -30,6 +31,7 @@ returns g c =
             ∙ (ap₂ (λ st rule. after (tasks-of st) (before rule) (state run) (calls given)) same-set same-rule
             ∙ ap (λ (s : State). after (tasks-of set) (before (c .args .rule .now)) s (calls given)) (c .start-run .ensures .state)))
             (c .close .ensures .clock)
-            (c .close .ensures .«open» ∙ ap (λ (st : Accepted). open-word (tasks-of st) (state ended)) (c .make-all .ensures .kept .0 ∙ same-set)),
+            (c .close .ensures .«open» ∙ ap (λ (st : Accepted). open-word (tasks-of st) (state ended))
+            (c .make-all .ensures .kept .0 ∙ same-set)),
       );
     }

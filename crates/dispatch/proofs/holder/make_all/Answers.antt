@@ -20,8 +20,10 @@ loop-slot-again g c =
     let call = getD (c .loop-slot .entries) (c .loop-slot .slot-index) blank .call in
     let same = ap₂ (λ set rule. step (tasks-of set) (g .R·OrderRule .before rule) call (state run)) (kept .0) (kept .1) in (
       (c .call .ensures .kept .0 ∙ kept .0, c .call .ensures .kept .1 ∙ kept .1),
-      filling-more (tasks-of (of-set from)) (g .R·OrderRule .before (of-rule from)) (state from) (c .args .entries .now) (state run) (c .loop-slot .entries)
-          (c .loop-slot .slot-index) (c .loop-slot .inv .1) (omega arith) blank (state (c .call .last .self)) (record { call = call; answer = Some (c .call .result) })
+      filling-more (tasks-of (of-set from)) (g .R·OrderRule .before (of-rule from)) (state from) (c .args .entries .now) (state run)
+          (c .loop-slot .entries)
+          (c .loop-slot .slot-index) (c .loop-slot .inv .1) (omega arith) blank (state (c .call .last .self))
+          (record { call = call; answer = Some (c .call .result) })
           (ap (λ (a : Answer). record { call = call; answer = Some a }) (c .call .ensures .answer ∙ ap (λ p. p .0) same))
           (c .call .ensures .state ∙ ap (λ p. p .1) same),
     )
@@ -30,9 +32,11 @@ pub returns : need.returns
 returns g c =
     let from = c .args .run .now in
     record {
-      entries = filled-all (tasks-of (of-set from)) (g .R·OrderRule .before (of-rule from)) (state from) (c .args .entries .now) (state (c .loop-slot .run))
+      entries = filled-all (tasks-of (of-set from)) (g .R·OrderRule .before (of-rule from)) (state from) (c .args .entries .now) (state
+          (c .loop-slot .run))
           (c .loop-slot .entries) (c .loop-slot .slot-index) (c .loop-slot .inv .1) (omega arith);
-      state = state-after (tasks-of (of-set from)) (g .R·OrderRule .before (of-rule from)) (state from) (c .args .entries .now) (state (c .loop-slot .run))
+      state = state-after (tasks-of (of-set from)) (g .R·OrderRule .before (of-rule from)) (state from) (c .args .entries .now) (state
+          (c .loop-slot .run))
           (c .loop-slot .entries) (c .loop-slot .slot-index) (c .loop-slot .inv .1) (omega arith);
       kept = c .loop-slot .inv .0;
     }

@@ -20,8 +20,10 @@ returns c =
     let e = c .put .ensures in
     record {
       value = made;
-      sound = put-sound (c .args .tasks .now) b (c .put .last .self) (c .args .task) (c .after-job .result) (omega arith) (e .clock) (e .jobs) (e .ready)
+      sound = put-sound (c .args .tasks .now) b (c .put .last .self) (c .args .task) (c .after-job .result) (omega arith) (e .clock)
+          (e .jobs) (e .ready)
           (e .waiting) (c .pre .sound) (subst (λ (j : Job). in-bounds f (b .clock) (Some j) ≡ true) (sym made) (c .pre .kept));
-      state = put-state (c .args .tasks .now) b (c .put .last .self) (c .args .task) (c .after-job .result) (omega arith) (e .clock) (e .jobs) (e .ready)
+      state = put-state (c .args .tasks .now) b (c .put .last .self) (c .args .task) (c .after-job .result) (omega arith) (e .clock)
+          (e .jobs) (e .ready)
           (e .waiting) (c .pre .sound) ∙ ap (λ (j : Job). put (c .args .task) j (state-of b)) made;
     }

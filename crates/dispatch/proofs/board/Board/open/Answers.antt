@@ -21,8 +21,10 @@ returns c =
     let kept : in-bounds f (b .clock) (Some fresh) ≡ true = grind (arith, tells) in
     let e = c .put .ensures in
     record {
-      sound = put-sound (c .args .tasks .now) b (c .put .last .self) (c .args .task) fresh (omega arith) (e .clock) (e .jobs) (e .ready) (e .waiting)
+      sound = put-sound (c .args .tasks .now) b (c .put .last .self) (c .args .task) fresh (omega arith) (e .clock) (e .jobs) (e .ready)
+          (e .waiting)
           (c .pre .sound) kept;
-      state = put-state (c .args .tasks .now) b (c .put .last .self) (c .args .task) fresh (omega arith) (e .clock) (e .jobs) (e .ready) (e .waiting)
+      state = put-state (c .args .tasks .now) b (c .put .last .self) (c .args .task) fresh (omega arith) (e .clock) (e .jobs) (e .ready)
+          (e .waiting)
           (c .pre .sound);
     }

@@ -14,9 +14,11 @@ returns-in-Release g c =
     let s = state (c .args .self .now) in
     record {
       answer = subst (λ (x : Call). c .released .result ≡ step tasks before x s .0) (sym (c .in-Release .is))
-          (told-answer Released (release tasks (c .in-Release .task) s) (c .release .result) (c .release .ensures .answer) (c .released .result) (c .released .ensures .value));
+          (told-answer Released (release tasks (c .in-Release .task) s) (c .release .result) (c .release .ensures .answer)
+          (c .released .result) (c .released .ensures .value));
       state = subst (λ (x : Call). state (c .release .last .self) ≡ step tasks before x s .1) (sym (c .in-Release .is))
-          (told-state Released (release tasks (c .in-Release .task) s) (c .release .result) (c .release .ensures .answer) (state (c .release .last .self)) (c .release .ensures .state));
+          (told-state Released (release tasks (c .in-Release .task) s) (c .release .result) (c .release .ensures .answer) (state
+          (c .release .last .self)) (c .release .ensures .state));
       kept = c .release .ensures .kept;
     }
 
@@ -27,9 +29,11 @@ returns-in-Wait g c =
     let s = state (c .args .self .now) in
     record {
       answer = subst (λ (x : Call). c .waits .result ≡ step tasks before x s .0) (sym (c .in-Wait .is))
-          (told-answer Waits (wait tasks before s) (c .wait .result) (c .wait .ensures .answer) (c .waits .result) (c .waits .ensures .value));
+          (told-answer Waits (wait tasks before s) (c .wait .result) (c .wait .ensures .answer) (c .waits .result)
+          (c .waits .ensures .value));
       state = subst (λ (x : Call). state (c .wait .last .self) ≡ step tasks before x s .1) (sym (c .in-Wait .is))
-          (told-state Waits (wait tasks before s) (c .wait .result) (c .wait .ensures .answer) (state (c .wait .last .self)) (c .wait .ensures .state));
+          (told-state Waits (wait tasks before s) (c .wait .result) (c .wait .ensures .answer) (state (c .wait .last .self))
+          (c .wait .ensures .state));
       kept = c .wait .ensures .kept;
     }
 
@@ -40,9 +44,11 @@ returns-in-Wake g c =
     let s = state (c .args .self .now) in
     record {
       answer = subst (λ (x : Call). c .woken .result ≡ step tasks before x s .0) (sym (c .in-Wake .is))
-          (told-answer Woken (wake tasks (c .in-Wake .task) s) (c .wake .result) (c .wake .ensures .answer) (c .woken .result) (c .woken .ensures .value));
+          (told-answer Woken (wake tasks (c .in-Wake .task) s) (c .wake .result) (c .wake .ensures .answer) (c .woken .result)
+          (c .woken .ensures .value));
       state = subst (λ (x : Call). state (c .wake .last .self) ≡ step tasks before x s .1) (sym (c .in-Wake .is))
-          (told-state Woken (wake tasks (c .in-Wake .task) s) (c .wake .result) (c .wake .ensures .answer) (state (c .wake .last .self)) (c .wake .ensures .state));
+          (told-state Woken (wake tasks (c .in-Wake .task) s) (c .wake .result) (c .wake .ensures .answer) (state (c .wake .last .self))
+          (c .wake .ensures .state));
       kept = c .wake .ensures .kept;
     }
 
@@ -53,8 +59,10 @@ returns-in-Tick g c =
     let s = state (c .args .self .now) in
     record {
       answer = subst (λ (x : Call). c .passed .result ≡ step tasks before x s .0) (sym (c .in-Tick .is))
-          (told-answer Passed (tick tasks before s) (c .tick .result) (c .tick .ensures .answer) (c .passed .result) (c .passed .ensures .value));
+          (told-answer Passed (tick tasks before s) (c .tick .result) (c .tick .ensures .answer) (c .passed .result)
+          (c .passed .ensures .value));
       state = subst (λ (x : Call). state (c .tick .last .self) ≡ step tasks before x s .1) (sym (c .in-Tick .is))
-          (told-state Passed (tick tasks before s) (c .tick .result) (c .tick .ensures .answer) (state (c .tick .last .self)) (c .tick .ensures .state));
+          (told-state Passed (tick tasks before s) (c .tick .result) (c .tick .ensures .answer) (state (c .tick .last .self))
+          (c .tick .ensures .state));
       kept = c .tick .ensures .kept;
     }

@@ -10,13 +10,15 @@ loop-i-holds c = filled-none (c .zero-points .result) (deadlines (c .as-slice-ta
 
 pub put-requires : need.put-requires
 put-requires c κs = record {
-  within = few (c .args .table .now) (c .as-slice-tasks .result .now) (c .loop-i .i) (c .as-slice-tasks .ensures .value) (c .loop-i-test .taken);
+  within = few (c .args .table .now) (c .as-slice-tasks .result .now) (c .loop-i .i) (c .as-slice-tasks .ensures .value)
+      (c .loop-i-test .taken);
   range = record { low = omega (arith, ints); high = omega (arith, ints) };
 }
 
 pub loop-i-again : need.loop-i-again
 loop-i-again c =
-    filled-more (c .loop-i .points) (c .put .last .self) (c .loop-i .i) (deadlines (c .as-slice-tasks .result .now)) _ (c .put .ensures .state)
+    filled-more (c .loop-i .points) (c .put .last .self) (c .loop-i .i) (deadlines (c .as-slice-tasks .result .now)) _
+    (c .put .ensures .state)
     (few (c .args .table .now) (c .as-slice-tasks .result .now) (c .loop-i .i) (c .as-slice-tasks .ensures .value) (c .loop-i-test .taken))
     (omega (arith, ints)) (c .loop-i .inv)
 

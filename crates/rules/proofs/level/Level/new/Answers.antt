@@ -13,18 +13,21 @@ loop-i-holds c =
 
 pub raised-own-requires : need.raised-own-requires
 raised-own-requires c κs =
-    let below = few (c .args .table .now) (c .as-slice-tasks .result .now) (c .loop-i .i) (c .as-slice-tasks .ensures .value) (c .loop-i-test .taken) in
+    let below = few (c .args .table .now) (c .as-slice-tasks .result .now) (c .loop-i .i) (c .as-slice-tasks .ensures .value)
+    (c .loop-i-test .taken) in
     (omega (arith, ints), omega (arith, ints))
 
 pub put-requires : need.put-requires
 put-requires c κs =
-    let below = few (c .args .table .now) (c .as-slice-tasks .result .now) (c .loop-i .i) (c .as-slice-tasks .ensures .value) (c .loop-i-test .taken) in
+    let below = few (c .args .table .now) (c .as-slice-tasks .result .now) (c .loop-i .i) (c .as-slice-tasks .ensures .value)
+    (c .loop-i-test .taken) in
     record { within = below; range = record { low = omega (arith, ints); high = omega (arith, ints) } }
 
 pub loop-i-again : need.loop-i-again
 loop-i-again c = (
   filled-more (c .loop-i .points) (c .put .last .self) (c .loop-i .i) (levels (c .as-slice-tasks .result .now)) _ (c .put .ensures .state)
-      (few (c .args .table .now) (c .as-slice-tasks .result .now) (c .loop-i .i) (c .as-slice-tasks .ensures .value) (c .loop-i-test .taken))
+      (few (c .args .table .now) (c .as-slice-tasks .result .now) (c .loop-i .i) (c .as-slice-tasks .ensures .value)
+      (c .loop-i-test .taken))
       (omega (arith, ints)) (c .loop-i .inv .0),
   rw add-one (omega (arith, ints)),
   rw add-one (omega (arith, ints)),

@@ -16,7 +16,12 @@ ghost-self c =
     let same : toZ w32 (ofZ w32 (c .args .point)) ≡ c .args .point = omega (arith, ints) in (
       length-set (p .at) (c .args .task) (toZ w32 (ofZ w32 (c .args .point))) ∙ p .room,
       (
-        each-after-set (λ z. negℤ (pos farthest) ≤ℤ z) (pos 0) (p .at) (c .args .task) (toZ w32 (ofZ w32 (c .args .point))) (omega (arith, ints, c .pre .range .low)) (p .low),
-        (each-after-set (λ z. z ≤ℤ pos farthest) (pos 0) (p .at) (c .args .task) (toZ w32 (ofZ w32 (c .args .point))) (omega (arith, ints, c .pre .range .high)) (p .high), tt),
+        each-after-set (λ z. negℤ (pos farthest) ≤ℤ z) (pos 0) (p .at) (c .args .task) (toZ w32 (ofZ w32 (c .args .point))) (omega
+            (arith, ints, c .pre .range .low)) (p .low),
+        (
+          each-after-set (λ z. z ≤ℤ pos farthest) (pos 0) (p .at) (c .args .task) (toZ w32 (ofZ w32 (c .args .point))) (omega
+              (arith, ints, c .pre .range .high)) (p .high),
+          tt,
+        ),
       ),
     )
