@@ -1,4 +1,6 @@
 //! The admission test: yes exactly when bounds on the response of every task exist, and the smallest of them.
+#![tactic(auto)]
+
 mod accepted;
 mod law;
 mod rounds;

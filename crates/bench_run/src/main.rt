@@ -1,5 +1,7 @@
 //! A long run of 32 tasks with waits, for timing. The number of ticks stands on standard input; what all calls answered
 //! is written as one number, and the time on standard error. `bench/run.c` makes the same calls on a plain dispatcher.
+#![tactic(auto)]
+
 use admission::{Accepted, admit};
 use dispatch::{Checked, Run};
 use model::{Answer, Call, Figures};

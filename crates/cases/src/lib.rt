@@ -1,4 +1,6 @@
 //! Examples that are run, and compared with what they should give.
+#![tactic(auto)]
+
 #[cfg(test)]
 mod rules;
 #[cfg(test)]

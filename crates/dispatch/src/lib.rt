@@ -1,4 +1,6 @@
 //! The dispatcher: runs that hold every task to the figures it was admitted with.
+#![tactic(auto)]
+
 mod board;
 mod event;
 mod holder;

@@ -1,5 +1,7 @@
 //! A bottle filling line: its tasks are entered one by one, the table is tested under several order rules, and the
 //! admitted line is dispatched.
+#![tactic(auto)]
+
 mod line;
 mod points;
 mod shift;

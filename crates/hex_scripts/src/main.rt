@@ -3,6 +3,8 @@
 //! A line that begins with `=` is a heading: the script before it is played, the line is printed as it stands, and
 //! another script begins. In other lines two hexadecimal digits make a byte, blanks between bytes are free, and `#`
 //! begins a comment. A script with a line that is not hexadecimal is not played.
+#![tactic(auto)]
+
 mod hexadecimal;
 mod lines;
 

@@ -1,4 +1,6 @@
 //! The admission test for hosts in C: a table, a rule and a result as bytes.
+#![tactic(auto)]
+
 ghost use Rattle.std.specs.Prelude.{◌≡◌, true, [], ◌∷◌};
 ghost use Rattle.admission.specs.Tested.{Tested};
 ghost use Rattle.model.specs.Checks.{question};

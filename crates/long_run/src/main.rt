@@ -1,4 +1,6 @@
 //! A run to the end of its clock: 4 000 000 000 ticks are granted, and the next is refused.
+#![tactic(auto)]
+
 use admission::Accepted;
 use dispatch::{Checked, LAST_CLOCK};
 use rules::Arrival;

@@ -1,5 +1,7 @@
 //! What the library means: the words that every other crate speaks in, their definitions in `specs/`,
 //! and what is proved about the definitions.
+#![tactic(auto)]
+
 mod call;
 mod figures;
 mod job;

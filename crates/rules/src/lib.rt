@@ -1,4 +1,6 @@
 //! Order rules: which of two jobs goes first. The trait, the three rules and the layers over any rule.
+#![tactic(auto)]
+
 mod arrival;
 mod bottom;
 mod choice;

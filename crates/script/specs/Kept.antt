@@ -1,7 +1,7 @@
 -- What a step leaves as it is.
 use Rattle.std.specs.Prelude.{◌≡◌}
-use Rattle.log.specs.Records.{room}
-use Rattle.log.specs.declared.Log.{Log}
+use Rattle.record_log.specs.Records.{room}
+use Rattle.record_log.specs.declared.Log.{Log}
 
 -- A log keeps its memory, and so its room.
 pub record SameMemory {T : Type 0} (before after : Log T) : Type 0 where

@@ -1,7 +1,7 @@
 -- What a script does in a run: the run, its two logs, and the row of ticks that goes on.
 use Rattle.std.specs.Prelude.{ℕ, ◌-◌, Bool, true, false, cond, List, [], length, Some, None, Ok, Err, Option, Result, ◌==◌, nat_le}
 use Rattle.std.specs.Option.{option_map}
-use Rattle.log.specs.Records.{pushed}
+use Rattle.record_log.specs.Records.{pushed}
 use Rattle.model.specs.Machine.{step}
 use Rattle.model.specs.State.{State, job, start}
 use Rattle.model.specs.declared.call.Answer.{Answer}

@@ -1,7 +1,7 @@
 -- What the values of the code stand for.
 use Rattle.dispatch.specs.Runs.{state}
-use Rattle.log.specs.Records.{records}
-use Rattle.log.specs.declared.Log.{Log}
+use Rattle.record_log.specs.Records.{records}
+use Rattle.record_log.specs.declared.Log.{Log}
 use Rattle.tasks.specs.Listed.{listed}
 use Rattle.script.specs.Sessions.{Books}
 use Rattle.script.specs.Setups.{Desk}

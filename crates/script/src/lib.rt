@@ -1,4 +1,6 @@
 //! Scripts: their commands, and the steps that carry them out. Nothing here allocates or prints.
+#![tactic(auto)]
+
 mod command;
 mod law;
 mod reader;

@@ -1,4 +1,6 @@
 //! The open table of tasks, before it is tested.
+#![tactic(auto)]
+
 mod table;
 
 pub use table::{CAPACITY, Table};

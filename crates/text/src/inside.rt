@@ -1,7 +1,7 @@
 //! The commands of a run, and what they say.
 ghost use Rattle.std.specs.Prelude.{◌≡◌, Bool, true, false, cond, [], ◌++◌, length, IfOk, None, string_bytes, OnOk};
 ghost use Rattle.dispatch.specs.Runs.{Kept, of_rule, set_tasks, state};
-ghost use Rattle.log.specs.Records.{records, room};
+ghost use Rattle.record_log.specs.Records.{records, room};
 ghost use Rattle.model.specs.State.{start};
 ghost use Rattle.script.specs.Commands.{Item as Read, items};
 ghost use Rattle.script.specs.Kept.{SameMemory};
@@ -13,7 +13,7 @@ ghost use Rattle.text.specs.Spoken.{inside, log_room, obeyed, report};
 
 use crate::line::Line;
 use crate::saying::{say, say_loss, say_losses, say_records};
-use log::Log;
+use record_log::Log;
 use model::Refusal;
 use rules::OrderRule;
 use script::{Command, EndRecord, Reader, Session, Stretch, Turn};

@@ -1,4 +1,6 @@
 //! Playing a whole script to its text.
+#![tactic(auto)]
+
 mod inside;
 mod line;
 mod outside;

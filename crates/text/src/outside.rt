@@ -17,7 +17,7 @@ use crate::line::Line;
 use crate::saying::{say, say_bounds};
 use admission::{Accepted, admit};
 use dispatch::Checked;
-use log::Log;
+use record_log::Log;
 use model::Refusal;
 use rules::{Bottom, OrderRule, Weighted};
 use script::{Command, Entered, NO_END, NO_STRETCH, RECORDS, Reader, Session, Setup};

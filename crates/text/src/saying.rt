@@ -1,13 +1,13 @@
 //! Lines at the end of a text.
 ghost use Rattle.std.specs.Prelude.{◌≡◌, [], ◌∷◌, ◌++◌, map, string_bytes, OnOk};
 ghost use Rattle.admission.specs.Views.{bounds_of, offsets_of};
-ghost use Rattle.log.specs.Records.{records};
+ghost use Rattle.record_log.specs.Records.{records};
 ghost use Rattle.text.specs.Lines.{printed};
 ghost use Rattle.text.specs.Spoken.{bound_lines, loss, losses};
 
 use crate::line::{Line, Said};
 use admission::Accepted;
-use log::Log;
+use record_log::Log;
 use model::Refusal;
 use script::Lost;
 use std::alloc::AllocError;

@@ -1,4 +1,6 @@
 //! The trial program: plays the script on standard input, and writes its text to standard output.
+#![tactic(auto)]
+
 use std::io;
 use std::io::{Read, Write};
 

@@ -1,4 +1,6 @@
 //! Sets of task numbers as words of 32 bits: bit k stands for task k.
+#![tactic(auto)]
+
 ghost use Rattle.std.specs.Prelude.{◌≡◌, ℕ, ◌/◌, ◌^◌, ◌<◌, ◌≤◌, true, not, ◌&&◌, ◌||◌, ◌==◌};
 ghost use Rattle.words.specs.Bits.{has, Lowest, LowestBit};
 

@@ -1,4 +1,6 @@
 //! The worked sets: each is tested in a new place, and again in a place that held a larger set.
+#![tactic(auto)]
+
 use admission::{Accepted, admit};
 use model::{Figures, Refusal};
 use rules::{Arrival, Deadline, Level, OrderRule, Weighted};

@@ -1,10 +1,10 @@
 //! What a call gives to record.
 ghost use Rattle.std.specs.Prelude.{◌≡◌};
-ghost use Rattle.log.specs.Records.{records, room};
+ghost use Rattle.record_log.specs.Records.{records, room};
 ghost use Rattle.script.specs.Sessions.{alike, noted, outcome, rows, stretch};
 
 use crate::records::{Lost, Row, Stretch, Turn};
-use log::Log;
+use record_log::Log;
 use model::{Answer, Refusal};
 
 // Pushes a record, if there is one, and answers whether it is lost.

@@ -1,7 +1,7 @@
 //! The steps of a session.
 ghost use Rattle.std.specs.Prelude.{◌≡◌, ◌<◌, length, None};
 ghost use Rattle.dispatch.specs.Runs.{Kept, of_rule, of_set, set_tasks, state};
-ghost use Rattle.log.specs.Records.{records, room};
+ghost use Rattle.record_log.specs.Records.{records, room};
 ghost use Rattle.model.specs.Machine.{totals};
 ghost use Rattle.model.specs.State.{start};
 ghost use Rattle.script.specs.Kept.{SameMemory};
@@ -14,7 +14,7 @@ use super::{Closed, Session};
 use crate::command::Command;
 use crate::records::{Cause, EndRecord, Lost, Stretch, Turn};
 use dispatch::Checked;
-use log::Log;
+use record_log::Log;
 use model::{Answer, Call, Refusal};
 use rules::OrderRule;
 

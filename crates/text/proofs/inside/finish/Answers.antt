@@ -1,4 +1,4 @@
-use Rattle.log.specs.Records.{records, room}
+use Rattle.record_log.specs.Records.{records, room}
 use Rattle.script.specs.Views.{books}
 use Rattle.std.proofs.Common.{string_bytes}
 use Rattle.text.proofs.Turns.{reported}

@@ -3,7 +3,7 @@ use Rattle.admission.specs.Views.{tasks_of}
 use Rattle.dispatch.specs.Runs.{of_rule, set_tasks}
 use Rattle.script.specs.Commands.{Item, items}
 use Rattle.script.specs.Views.{books}
-use Rattle.log.specs.declared.Log.{Log}
+use Rattle.record_log.specs.declared.Log.{Log}
 use Rattle.script.specs.declared.records.EndRecord.{EndRecord}
 use Rattle.script.specs.declared.records.Stretch.{Stretch}
 use Rattle.script.specs.declared.session.Session.{Session}

@@ -1,6 +1,6 @@
 use Rattle.std.proofs.Common.{◌≡◌, ◌++◌, length, string_bytes}
 use Rattle.dispatch.specs.Runs.{of_rule, set_tasks}
-use Rattle.log.specs.Records.{room}
+use Rattle.record_log.specs.Records.{room}
 use Rattle.script.specs.Commands.{items}
 use Rattle.script.specs.Views.{books}
 use Rattle.text.specs.Lines.{printed}

@@ -1,5 +1,5 @@
 use Rattle.std.proofs.Common.{[], ◌∷◌, ◌++◌, map, string_bytes, ap, ◌∙◌}
-use Rattle.log.specs.Records.{records}
+use Rattle.record_log.specs.Records.{records}
 use Rattle.text.specs.Lines.{printed}
 use Rattle.text.proofs.Printed.{said_all, said_next}
 use Rattle.text.proofs.saying.say_records.Goals as goal

@@ -1,8 +1,8 @@
 use Rattle.std.proofs.Common.{◌≡◌, false, leb, length, refl, ap, arith, length-set}
 use Rattle.std.proofs.lemmas.List.{length-take-le, take_more_set}
 use Rattle.std.proofs.lemmas.Bool.{lt-leb}
-use Rattle.log.specs.Records.{records, room}
-use Rattle.log.proofs.Log.push.Goals as goal
+use Rattle.record_log.specs.Records.{records, room}
+use Rattle.record_log.proofs.Log.push.Goals as goal
 
 pub returns : goal.returns
 returns g c =

@@ -3,7 +3,7 @@ use Rattle.std.specs.Prelude.{ℕ, cond, List, [], ◌∷◌, ◌++◌, length, 
 use Rattle.model.specs.Checks.{call}
 use Rattle.model.specs.declared.refusal.Refusal.{Refusal}
 use Rattle.model.specs.declared.refusal.Refusal.TheVariants.{LogFull}
-use Rattle.log.specs.declared.Log.{Log}
+use Rattle.record_log.specs.declared.Log.{Log}
 
 -- Pushing on a list that has room for so many records: it is full, or the record stands at its end.
 abbrev pub pushed : {T : Type 0} → ℕ → List T → T → Result (Unit {0}) Refusal × List T

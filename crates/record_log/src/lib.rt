@@ -1,4 +1,6 @@
 //! A log of records of any kind, in memory that its user brings.
+#![tactic(auto)]
+
 ghost use Rattle.std.specs.Prelude.{◌≤◌, length};
 
 mod methods;

@@ -1,6 +1,6 @@
 //! Making a log, pushing on it and asking it.
 ghost use Rattle.std.specs.Prelude.{◌≡◌, [], length};
-ghost use Rattle.log.specs.Records.{memory_after, push, records, room};
+ghost use Rattle.record_log.specs.Records.{memory_after, push, records, room};
 ghost use Rattle.std.specs.List.{slice_get};
 
 use crate::Log;
