@@ -3,11 +3,11 @@ use Rattle.std.proofs.lemmas.Nat.{one_shl, pow_pos}
 use Rattle.words.proofs.Changes.{has_cleared, has_inside, has_le}
 use Rattle.words.proofs.cleared.Goals as goal
 
-pub overflow-shl-result : goal.overflow-shl-result
-overflow-shl-result c = has_inside c.args.word c.args.k (omega arith) c.requires
+pub overflow_shl-result : goal.overflow_shl-result
+overflow_shl-result c = has_inside c.args.word c.args.k (omega arith) c.requires
 
-pub overflow-sub-result : goal.overflow-sub-result
-overflow-sub-result c =
+pub overflow_sub-result : goal.overflow_sub-result
+overflow_sub-result c =
     let inside : c.args.k < 32 = has_inside c.args.word c.args.k (omega arith) c.requires in
     omega (arith, one_shl c.args.k 32 inside, has_le c.args.k c.args.word c.requires)
 

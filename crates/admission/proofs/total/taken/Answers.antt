@@ -14,8 +14,8 @@ small c =
     let each : c.from.result ≤ 2 ^ 16 = omega arith in
     omega (arith, mul-le-mul many each)
 
-pub overflow-mul-result : goal.overflow-mul-result
-overflow-mul-result c = let s = small c in omega arith
+pub overflow_mul-result : goal.overflow_mul-result
+overflow_mul-result c = let s = small c in omega arith
 
 pub returns : goal.returns
 returns c = record { value = rw (counted c, c.from.ensures); small = small c }

@@ -1,5 +1,5 @@
 use Rattle.admission.specs.Views.{tasks_of}
 use Rattle.dispatch.proofs.run.Checked.start.Goals as goal
 
-pub invariant-of-result : goal.invariant-of-result
-invariant-of-result g c = (c.new.ensures.sound (tasks_of c.args.self.set.now), tt)
+pub invariant_of-result : goal.invariant_of-result
+invariant_of-result g c = record { sound = c.new.ensures.sound (tasks_of c.args.self.set.now) }

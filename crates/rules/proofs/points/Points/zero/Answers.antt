@@ -5,14 +5,13 @@ use Rattle.model.specs.Orders.{farthest}
 use Rattle.rules.proofs.Stored.{each_of_zeros}
 use Rattle.rules.proofs.points.Points.zero.Goals as goal
 
-pub invariant-of-result : goal.invariant-of-result
-invariant-of-result c = (
-  refl,
-  (
-    each_of_zeros (λ z. neg_ℤ (pos farthest) ≤ℤ z) (record { le = tt }) most_tasks,
-    (each_of_zeros (λ z. z ≤ℤ pos farthest) (record { le = tt }) most_tasks, tt),
-  ),
-)
+pub invariant_of-result : goal.invariant_of-result
+invariant_of-result c =
+    record {
+      room = refl;
+      low = each_of_zeros (λ z. neg_ℤ (pos farthest) ≤ℤ z) (record { le = tt }) most_tasks;
+      high = each_of_zeros (λ z. z ≤ℤ pos farthest) (record { le = tt }) most_tasks;
+    }
 
 pub returns : goal.returns
 returns c = record { value = refl; points = fun_ext (λ i. each_of_zeros (λ z. z ≡ pos 0) refl most_tasks i) }

@@ -12,8 +12,8 @@ exact c =
     let f : to_z w32 (of_z w32 c.from.result) ≡ pos c.args.figure = omega (arith, ints) in
     simp (w, f)
 
-pub overflow-mul-result : goal.overflow-mul-result
-overflow-mul-result c =
+pub overflow_mul-result : goal.overflow_mul-result
+overflow_mul-result c =
     let e = exact c in
     let b = product_bounds c.args.weight c.args.figure c.requires.light (omega arith) in
     rw (exact c) (omega (arith, ints))

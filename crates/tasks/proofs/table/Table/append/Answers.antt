@@ -2,12 +2,14 @@ use Rattle.std.proofs.Common.{sym, ap, ◌∙◌, arith, length-set}
 use Rattle.tasks.proofs.Front.{stored, still_fit, added}
 use Rattle.tasks.proofs.table.Table.append.Goals as goal
 
-pub invariant-of-self : goal.invariant-of-self
-invariant-of-self c =
-    let t = c.args.self.now in (
-      length-set t.tasks t.count c.args.figures ∙ t.room,
-      (omega arith, (still_fit t.tasks t.count c.args.figures t.room c.requires.room c.requires.fit t.fit, tt)),
-    )
+pub invariant_of-self : goal.invariant_of-self
+invariant_of-self c =
+    let t = c.args.self.now in
+    record {
+      room = length-set t.tasks t.count c.args.figures ∙ t.room;
+      few = omega arith;
+      fit = still_fit t.tasks t.count c.args.figures t.room c.requires.room c.requires.fit t.fit;
+    }
 
 pub returns : goal.returns
 returns c =
