@@ -63,7 +63,7 @@ fn stopped(sum: i32) -> i32
 fn layer_points<R: OrderRule>(table: &Table, figure: Figure, weight: i32, below: &R) -> Points
     requires light { allowed weight ≡ true }
     ensures value { point_of result
-        ≡ weighted_point (figure_of figure) (listed table.now) weight (points below.now) }
+        ≡ weighted_point (figure_of figure) (listed table.now) weight (R.OrderRule.points below.now) }
 {
     let mut points = Points::zero();
     let tasks = table.as_slice();
@@ -82,7 +82,7 @@ impl<'r, R: OrderRule> Weighted<'r, R> {
         weight: i32,
         below: &'r R,
     ) -> Result<Weighted<'r, R>, Refusal>
-        ensures answer { Layered (λ f. f.execution) (listed table.now) weight below.now (points below.now) result }
+        ensures answer { Layered (λ f. f.execution) (listed table.now) weight below.now (R.OrderRule.points below.now) result }
     {
         Weighted::over(table, Figure::Execution, weight, below)
     }
@@ -94,7 +94,7 @@ impl<'r, R: OrderRule> Weighted<'r, R> {
         weight: i32,
         below: &'r R,
     ) -> Result<Weighted<'r, R>, Refusal>
-        ensures answer { Layered (λ f. f.suspension) (listed table.now) weight below.now (points below.now) result }
+        ensures answer { Layered (λ f. f.suspension) (listed table.now) weight below.now (R.OrderRule.points below.now) result }
     {
         Weighted::over(table, Figure::Suspension, weight, below)
     }
@@ -106,7 +106,7 @@ impl<'r, R: OrderRule> Weighted<'r, R> {
         below: &'r R,
     ) -> Result<Weighted<'r, R>, Refusal>
         ensures answer { Layered (figure_of figure) (listed table.now) weight below.now
-            (points below.now) result }
+            (R.OrderRule.points below.now) result }
     {
         if weight < -HEAVIEST || weight > HEAVIEST {
             return Err(Refusal::RuleOutOfRange);

@@ -16,7 +16,7 @@ rounds-smaller c =
     let figures = c.rounds.figures in
     subst (λ f. distance tasks f < distance tasks figures) (sym c.widened-figures.ensures.value)
     (distance_falls tasks c.args.points.now figures l.bounds l.offsets l.k (omega arith) c.rounds.invariant.3 l.invariant.2
-    c.if-nothing-moved.ensures.value)
+    c.if-nothing_moved.ensures.value)
 
 pub rounds-preserved : goal.rounds-preserved
 rounds-preserved c =
@@ -35,7 +35,7 @@ returns-then-late c =
         answer = refuses_late c.args.tasks.now c.args.points.now c.rounds.figures c.loop-k.k c.rounds.invariant.3.under
             w.loop-k-test.true w.in-default.ensures.answer;
       }
-      | else-loop-k-test+then-nothing-moved w ↦ absurd (both_ways _ w.late-is c.if-late.true)
+      | else-loop-k-test+then-nothing_moved w ↦ absurd (both_ways _ w.late-is c.if-late.true)
     ]
 
 pub returns : goal.returns
@@ -43,9 +43,9 @@ returns c =
     let l = c.loop-k in
     elim c.loop-k-test.branch [
       | then-loop-k-test+in-default w ↦ absurd (both_ways _ c.if-late.false w.late-is)
-      | else-loop-k-test+then-nothing-moved w ↦ record {
+      | else-loop-k-test+then-nothing_moved w ↦ record {
         answer = admits_unmoved c.args.tasks.now c.args.points.now c.rounds.figures l.bounds l.offsets l.k
             (omega arith) c.rounds.invariant.3 l.invariant.2 c.requires.rows.fit.1 (omega arith) (omega arith)
-            w.if-nothing-moved.ensures.value;
+            w.if-nothing_moved.ensures.value;
       }
     ]

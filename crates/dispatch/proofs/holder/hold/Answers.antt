@@ -14,7 +14,7 @@ returns g c =
     let before = g.R.OrderRule.before in
     let given = c.args.entries.now in
     let run = c.start-run.result in
-    let ended = c.make-all.new.run in
+    let ended = c.make_all.new.run in
     let matched = c.in-Ok.ensures.answer in
     let same_set : of_set run ≡ set = c.start-run.ensures.set ∙ matched.1 in
     let same_rule : of_rule run ≡ c.args.rule.now = c.start-run.ensures.rule ∙ matched.2 in
@@ -23,15 +23,15 @@ returns g c =
         matched.0,
         made set (g.R.OrderRule.points c.args.rule.now) (before c.args.rule.now) (g.R.OrderRule.laws c.args.rule.now)
             matched.0 c.run_law.ensures
-            given c.make-all.new.entries c.close.result (state ended)
-            (c.make-all.ensures.entries
+            given c.make_all.new.entries c.close.result (state ended)
+            (c.make_all.ensures.entries
             ∙ (ap₂ (λ st rule. filled (tasks_of st) (before rule) (state run) given) same_set same_rule
             ∙ ap (λ (s : State). filled (tasks_of set) (before c.args.rule.now) s given) c.start-run.ensures.state))
-            (c.make-all.ensures.state
+            (c.make_all.ensures.state
             ∙ (ap₂ (λ st rule. after (tasks_of st) (before rule) (state run) (calls given)) same_set same_rule
             ∙ ap (λ (s : State). after (tasks_of set) (before c.args.rule.now) s (calls given)) c.start-run.ensures.state))
             c.close.ensures.clock
             (c.close.ensures.«open» ∙ ap (λ (st : Accepted). open_word (tasks_of st) (state ended))
-            (c.make-all.ensures.kept.0 ∙ same_set)),
+            (c.make_all.ensures.kept.0 ∙ same_set)),
       );
     }

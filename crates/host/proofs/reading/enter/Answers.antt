@@ -17,7 +17,7 @@ returns-then-count-gt-CAPACITY c =
 
 pub returns-in-err-add : goal.returns-in-err-add
 returns-in-err-add c =
-    let p = err_from_is_err_and c.from-residual.result c.from-residual.ensures.1 in
+    let p = err_from_is_err_and c.from_residual.result c.from_residual.ensures.1 in
     record {
       answer = rw (p.1, p.2) (front_more c.args.bytes.now (listed c.loop-task.table) c.loop-task.task c.loop-task.invariant
           (omega arith) (omega arith) c.row.result c.row.ensures.value (Err c.in-err-add.field-0.0)

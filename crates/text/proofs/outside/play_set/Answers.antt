@@ -13,15 +13,15 @@ returns g c =
     let set = c.args.set.now in
     let rest = items c.args.reader.now.rest.now in
     let matched = c.in-Ok.ensures.answer in
-    let r = c.play-checked.result in
-    let text = string_bytes c.say-bounds.new.text in
-    let after = string_bytes c.play-checked.new.text in
+    let r = c.play_checked.result in
+    let text = string_bytes c.say_bounds.new.text in
+    let after = string_bytes c.play_checked.new.text in
     let run : inside (tasks_of c.in-Ok.checked.set.now) (g.R.OrderRule.before c.in-Ok.checked.rule.now) opened rest
     ≡ inside (tasks_of set) (g.R.OrderRule.before c.args.rule.now) opened rest =
     ap (λ s. inside (tasks_of s) (g.R.OrderRule.before c.in-Ok.checked.rule.now) opened rest) matched.1
     ∙ ap (λ o. inside (tasks_of set) (g.R.OrderRule.before o) opened rest) matched.2 in
     record {
       said = said_last r (string_bytes c.args.text.now) text after (bound_lines 0 (bounds_of set) (offsets_of set))
-          (inside (tasks_of set) (g.R.OrderRule.before c.args.rule.now) opened rest) c.in-ok-say-bounds.ensures.bytes
-          (subst (λ (ls : List Line). IfOk r (λ _. after ≡ text ++ printed ls)) run c.play-checked.ensures.said);
+          (inside (tasks_of set) (g.R.OrderRule.before c.args.rule.now) opened rest) c.in-ok-say_bounds.ensures.bytes
+          (subst (λ (ls : List Line). IfOk r (λ _. after ≡ text ++ printed ls)) run c.play_checked.ensures.said);
     }

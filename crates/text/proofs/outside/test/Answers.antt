@@ -6,20 +6,20 @@ use Rattle.tasks.specs.Listed.{listed}
 use Rattle.text.proofs.Starts.{agrees, tried_no, tried_yes}
 use Rattle.text.proofs.outside.test.Goals as goal
 
-pub play-set-requires : goal.play-set-requires
-play-set-requires g c = record {
+pub play_set-requires : goal.play_set-requires
+play_set-requires g c = record {
   agree = agrees (listed c.args.table.now) (g.R.OrderRule.points c.args.rule.now) c.admit.new.place
       c.in-Ok.ensures.verdict;
 }
 
-pub returns-in-ok-play-set : goal.returns-in-ok-play-set
-returns-in-ok-play-set g c =
+pub returns-in-ok-play_set : goal.returns-in-ok-play_set
+returns-in-ok-play_set g c =
     let rule = c.args.rule.now in
     record {
       said = tried_yes (listed c.args.table.now) (g.R.OrderRule.points rule) (invariant c.args.table.now)
           (g.R.OrderRule.before rule) (items c.args.reader.now.rest.now) (string_bytes c.args.text.now)
-          (string_bytes c.play-set.new.text) c.admit.new.place c.in-Ok.ensures.verdict
-          c.in-ok-play-set.ensures.said;
+          (string_bytes c.play_set.new.text) c.admit.new.place c.in-Ok.ensures.verdict
+          c.in-ok-play_set.ensures.said;
       rest = λ e. absurd (true≢false e);
     }
 

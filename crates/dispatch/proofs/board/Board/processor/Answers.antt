@@ -13,13 +13,13 @@ pub loop-task-preserved-in-Some-best : goal.loop-task-preserved-in-Some-best
 loop-task-preserved-in-Some-best g c =
     takes_the_lead (g.R.OrderRule.laws c.args.rule.now) c.without-rest.result
     (ap (λ (j : Job). record { task = c.in-Some.task; release = j.release }) c.job.ensures.value) c.in-Some.ensures.there
-    c.without-rest.ensures.bits c.loop-task.invariant c.in-Some-best.is (sym c.if-goes-before.ensures.value)
+    c.without-rest.ensures.bits c.loop-task.invariant c.in-Some-best.is (sym c.if-goes_before.ensures.value)
 
 pub loop-task-preserved-in-Some-2 : goal.loop-task-preserved-in-Some-2
 loop-task-preserved-in-Some-2 g c =
     keeps_the_lead (g.R.OrderRule.laws c.args.rule.now) c.without-rest.result
     (ap (λ (j : Job). record { task = c.in-Some.task; release = j.release }) c.job.ensures.value) c.in-Some.ensures.there
-    c.without-rest.ensures.bits c.loop-task.invariant c.in-Some-best.is (sym c.if-goes-before.ensures.value)
+    c.without-rest.ensures.bits c.loop-task.invariant c.in-Some-best.is (sym c.if-goes_before.ensures.value)
 
 pub returns-in-Some-best-2 : goal.returns-in-Some-best-2
 returns-in-Some-best-2 g c =

@@ -6,24 +6,24 @@ use Rattle.rules.proofs.Made.{deadlines, few}
 use Rattle.rules.proofs.deadline.Deadline.new.Goals as goal
 
 pub loop-i-init : goal.loop-i-init
-loop-i-init c = filled_none c.zero-points.result (deadlines c.as-slice-tasks.result.now) c.zero-points.ensures.value
+loop-i-init c = filled_none c.zero-points.result (deadlines c.as_slice-tasks.result.now) c.zero-points.ensures.value
 
 pub put-requires : goal.put-requires
 put-requires c = record {
-  within = few c.args.table.now c.as-slice-tasks.result.now c.loop-i.i c.as-slice-tasks.ensures.value
+  within = few c.args.table.now c.as_slice-tasks.result.now c.loop-i.i c.as_slice-tasks.ensures.value
       c.loop-i-test.true;
   range = record { low = omega (arith, ints); high = omega (arith, ints) };
 }
 
 pub loop-i-preserved : goal.loop-i-preserved
 loop-i-preserved c =
-    filled_more c.loop-i.points c.put.new.self c.loop-i.i (deadlines c.as-slice-tasks.result.now) _
+    filled_more c.loop-i.points c.put.new.self c.loop-i.i (deadlines c.as_slice-tasks.result.now) _
     c.put.ensures.state
-    (few c.args.table.now c.as-slice-tasks.result.now c.loop-i.i c.as-slice-tasks.ensures.value c.loop-i-test.true)
+    (few c.args.table.now c.as_slice-tasks.result.now c.loop-i.i c.as_slice-tasks.ensures.value c.loop-i-test.true)
     (omega (arith, ints)) c.loop-i.invariant
 
 pub returns : goal.returns
 returns c = record {
-  points = filled_all c.loop-i.points c.loop-i.i c.as-slice-tasks.result.now (listed c.args.table.now) deadlines
-      c.as-slice-tasks.ensures.value (omega arith) c.loop-i.invariant;
+  points = filled_all c.loop-i.points c.loop-i.i c.as_slice-tasks.result.now (listed c.args.table.now) deadlines
+      c.as_slice-tasks.ensures.value (omega arith) c.loop-i.invariant;
 }

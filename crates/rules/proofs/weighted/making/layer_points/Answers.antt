@@ -13,12 +13,12 @@ pub loop-i-init : goal.loop-i-init
 loop-i-init g c =
     filled_none c.zero-points.result
     (weights (figure_of c.args.figure) (to_z w32 (of_z w32 c.args.weight)) (g.R.OrderRule.points c.args.below.now)
-    c.as-slice-tasks.result.now)
+    c.as_slice-tasks.result.now)
     c.zero-points.ensures.value
 
 pub put-requires : goal.put-requires
 put-requires g c = record {
-  within = few c.args.table.now c.as-slice-tasks.result.now c.loop-i.i c.as-slice-tasks.ensures.value
+  within = few c.args.table.now c.as_slice-tasks.result.now c.loop-i.i c.as_slice-tasks.ensures.value
       c.loop-i-test.true;
   range = record {
     low = omega (arith, ints, c.stopped.ensures.range.low);
@@ -44,18 +44,18 @@ loop-i-preserved g c =
     let sum : to_z w32 (of_z w32 c.sum.result) ≡ c.sum.result = omega (arith, ints) in
     let put : to_z w32 (of_z w32 c.stopped.result) ≡ c.stopped.result = omega (arith, ints) in
     let points = weights (figure_of c.args.figure) (to_z w32 (of_z w32 c.args.weight)) (g.R.OrderRule.points
-    c.args.below.now) c.as-slice-tasks.result.now in
+    c.args.below.now) c.as_slice-tasks.result.now in
     filled_more c.loop-i.points c.put.new.self c.loop-i.i points (to_z w32 (of_z w32 c.stopped.result))
     c.put.ensures.state
-    (few c.args.table.now c.as-slice-tasks.result.now c.loop-i.i c.as-slice-tasks.ensures.value c.loop-i-test.true)
+    (few c.args.table.now c.as_slice-tasks.result.now c.loop-i.i c.as_slice-tasks.ensures.value c.loop-i-test.true)
     (cc (c.stopped.ensures.value, c.sum.ensures.value, c.point.ensures.value, c.product-added.ensures.value, c.of.ensures.value)) c.loop-i.invariant
 
 pub returns : goal.returns
 returns g c =
     let weight : to_z w32 (of_z w32 c.args.weight) ≡ c.args.weight = omega (arith, ints) in
-    let made = filled_all c.loop-i.points c.loop-i.i c.as-slice-tasks.result.now (listed c.args.table.now)
+    let made = filled_all c.loop-i.points c.loop-i.i c.as_slice-tasks.result.now (listed c.args.table.now)
     (weights (figure_of c.args.figure) (to_z w32 (of_z w32 c.args.weight)) (g.R.OrderRule.points c.args.below.now))
-    c.as-slice-tasks.ensures.value (omega arith) c.loop-i.invariant in
+    c.as_slice-tasks.ensures.value (omega arith) c.loop-i.invariant in
     record {
       value = subst (λ (w : ℤ). point_of c.loop-i.points ≡ weighted_point (figure_of c.args.figure) (listed
           c.args.table.now) w (g.R.OrderRule.points c.args.below.now)) weight made;

@@ -5,6 +5,6 @@ use Rattle.rules.proofs.weighted.making.sum.Goals as goal
 
 pub returns : goal.returns
 returns c =
-    let whole : c.saturating-add.result ≡ to_z w32 (of_z w32 c.args.below) +ℤ to_z w32 (of_z w32 c.args.added) =
-    c.saturating-add.ensures ∙ uncut _ (omega (arith, ints)) (omega (arith, ints)) in
+    let whole : c.saturating_add.result ≡ to_z w32 (of_z w32 c.args.below) +ℤ to_z w32 (of_z w32 c.args.added) =
+    c.saturating_add.ensures ∙ uncut _ (omega (arith, ints)) (omega (arith, ints)) in
     record { value = omega (arith, ints) }
