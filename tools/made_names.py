@@ -18,8 +18,9 @@ for path in sorted(glob.glob("crates/*/proofs/**/*.antt", recursive=True)):
     old = open(path, encoding="utf-8").read()
     lines = []
     for line in old.split("\n"):
-        if not line.startswith(("use ", "--")):
+        if not line.startswith("--") and (not line.startswith("use ") or ".Goals.{" in line):
             line = pattern.sub(lambda m: dashed[m.group(1)], line)
+            line = re.sub(r"(?<![A-Za-z0-9_])in-(ok|err|default)(?![A-Za-z0-9_])", r"in_\1", line)
         lines.append(line)
     new = "\n".join(lines)
     if new != old:

@@ -5,52 +5,52 @@ use Rattle.tasks.specs.Listed.{listed}
 use Rattle.host.proofs.Outcomes.{light, refused_by_rule, refused_by_table, room, said_no, said_yes}
 use Rattle.host.proofs.answer.Goals as goal
 
-pub returns-in-err-choice : goal.returns-in-err-choice
-returns-in-err-choice c =
-    let p = err_from_is_err_and c.from_residual-in-err-choice.result c.from_residual-in-err-choice.ensures.1 in
+pub returns-in_err-choice : goal.returns-in_err-choice
+returns-in_err-choice c =
+    let p = err_from_is_err_and c.from_residual-in_err-choice.result c.from_residual-in_err-choice.ensures.1 in
     record {
       answer = rw (p.1, p.2) (refused_by_rule c.args.table.now c.args.rule c.args.res.now
-          c.in-ok-check_lengths.ensures.answer c.in-err-choice.field-0.0 c.in-err-choice.ensures.answer);
+          c.in_ok-check_lengths.ensures.answer c.in_err-choice.field-0.0 c.in_err-choice.ensures.answer);
     }
 
-pub returns-in-err-entered : goal.returns-in-err-entered
-returns-in-err-entered c =
-    let p = err_from_is_err_and c.from_residual-in-err-entered.result c.from_residual-in-err-entered.ensures.1 in
+pub returns-in_err-entered : goal.returns-in_err-entered
+returns-in_err-entered c =
+    let p = err_from_is_err_and c.from_residual-in_err-entered.result c.from_residual-in_err-entered.ensures.1 in
     record {
       answer = rw (p.1, p.2) (refused_by_table c.args.table.now c.args.rule c.args.res.now
-          c.in-ok-check_lengths.ensures.answer c.in-ok-choice.choice c.in-ok-choice.ensures.answer
-          c.in-err-entered.field-0.0 c.in-err-entered.ensures.answer);
+          c.in_ok-check_lengths.ensures.answer c.in_ok-choice.choice c.in_ok-choice.ensures.answer
+          c.in_err-entered.field-0.0 c.in_err-entered.ensures.answer);
     }
 
 pub test-requires : goal.test-requires
 test-requires c =
-    let weights = light c.args.table.now c.args.rule c.args.res.now c.in-ok-check_lengths.ensures.answer
-    c.in-ok-choice.choice c.in-ok-choice.ensures.answer in
+    let weights = light c.args.table.now c.args.rule c.args.res.now c.in_ok-check_lengths.ensures.answer
+    c.in_ok-choice.choice c.in_ok-choice.ensures.answer in
     record { execution = weights.0; suspension = weights.1 }
 
-pub returns-in-err-test : goal.returns-in-err-test
-returns-in-err-test c =
-    let p = err_from_is_err_and c.from_residual-in-err-test.result c.from_residual-in-err-test.ensures.1 in
-    let (passes, entered) = c.in-ok-entered.ensures.answer in
+pub returns-in_err-test : goal.returns-in_err-test
+returns-in_err-test c =
+    let p = err_from_is_err_and c.from_residual-in_err-test.result c.from_residual-in_err-test.ensures.1 in
+    let (passes, entered) = c.in_ok-entered.ensures.answer in
     record {
       answer = rw (p.1, p.2) (said_no c.args.table.now c.args.rule c.args.res.now
-          c.in-ok-check_lengths.ensures.answer c.in-ok-choice.choice c.in-ok-choice.ensures.answer
-          (listed c.in-ok-entered.entered) passes entered c.new-place.result c.test.new.place
-          c.in-err-test.field-0.0 c.in-err-test.ensures.verdict);
+          c.in_ok-check_lengths.ensures.answer c.in_ok-choice.choice c.in_ok-choice.ensures.answer
+          (listed c.in_ok-entered.entered) passes entered c.new-place.result c.test.new.place
+          c.in_err-test.field-0.0 c.in_err-test.ensures.verdict);
     }
 
 pub write_answers-requires : goal.write_answers-requires
 write_answers-requires c =
     subst (λ (ts : List Figures). 4 * length ts ≤ length c.args.res.now)
-    (sym (c.in-ok-test.ensures.verdict.its_tasks ∙ c.in-ok-entered.ensures.answer.1))
-    (room c.args.table.now c.args.rule c.args.res.now c.in-ok-check_lengths.ensures.answer)
+    (sym (c.in_ok-test.ensures.verdict.its_tasks ∙ c.in_ok-entered.ensures.answer.1))
+    (room c.args.table.now c.args.rule c.args.res.now c.in_ok-check_lengths.ensures.answer)
 
 pub returns : goal.returns
 returns c =
-    let (passes, entered) = c.in-ok-entered.ensures.answer in
+    let (passes, entered) = c.in_ok-entered.ensures.answer in
     record {
       answer = said_yes c.args.table.now c.args.rule c.args.res.now
-          c.in-ok-check_lengths.ensures.answer c.in-ok-choice.choice c.in-ok-choice.ensures.answer
-          (listed c.in-ok-entered.entered) passes entered c.test.new.place c.in-ok-test.ensures.verdict
+          c.in_ok-check_lengths.ensures.answer c.in_ok-choice.choice c.in_ok-choice.ensures.answer
+          (listed c.in_ok-entered.entered) passes entered c.test.new.place c.in_ok-test.ensures.verdict
           c.write_answers.new.result c.write_answers.ensures.bytes;
     }

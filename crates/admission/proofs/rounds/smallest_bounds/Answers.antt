@@ -3,7 +3,7 @@ use Rattle.std.proofs.lemmas.Bool.{both_ways}
 use Rattle.model.proofs.Rounds.{refuses_late}
 use Rattle.admission.proofs.Iteration.{distance, Rising, rising_start, rising_round, distance_falls, admits_unmoved}
 use Rattle.admission.proofs.rounds.smallest_bounds.Goals as goal
-use Rattle.admission.proofs.rounds.smallest_bounds.Goals.{then-loop-k-test+in-default, else-loop-k-test+then-nothing-moved}
+use Rattle.admission.proofs.rounds.smallest_bounds.Goals.{then-loop-k-test+in_default, else-loop-k-test+then-nothing_moved}
 
 pub rounds-init : goal.rounds-init
 rounds-init c =
@@ -31,9 +31,9 @@ rounds-preserved c =
 pub returns-then-late : goal.returns-then-late
 returns-then-late c =
     elim c.loop-k-test.branch [
-      | then-loop-k-test+in-default w ↦ record {
+      | then-loop-k-test+in_default w ↦ record {
         answer = refuses_late c.args.tasks.now c.args.points.now c.rounds.figures c.loop-k.k c.rounds.invariant.3.under
-            w.loop-k-test.true w.in-default.ensures.answer;
+            w.loop-k-test.true w.in_default.ensures.answer;
       }
       | else-loop-k-test+then-nothing_moved w ↦ absurd (both_ways _ w.late-is c.if-late.true)
     ]
@@ -42,7 +42,7 @@ pub returns : goal.returns
 returns c =
     let l = c.loop-k in
     elim c.loop-k-test.branch [
-      | then-loop-k-test+in-default w ↦ absurd (both_ways _ c.if-late.false w.late-is)
+      | then-loop-k-test+in_default w ↦ absurd (both_ways _ c.if-late.false w.late-is)
       | else-loop-k-test+then-nothing_moved w ↦ record {
         answer = admits_unmoved c.args.tasks.now c.args.points.now c.rounds.figures l.bounds l.offsets l.k
             (omega arith) c.rounds.invariant.3 l.invariant.2 c.requires.rows.fit.1 (omega arith) (omega arith)

@@ -15,20 +15,20 @@ returns-then-count-gt-CAPACITY c =
     let full : ltb most_tasks (length all) ≡ true = lt-ltb most_tasks (length all) (omega arith) in
     record { answer = simp full }
 
-pub returns-in-err-add : goal.returns-in-err-add
-returns-in-err-add c =
+pub returns-in_err-add : goal.returns-in_err-add
+returns-in_err-add c =
     let p = err_from_is_err_and c.from_residual.result c.from_residual.ensures.1 in
     record {
       answer = rw (p.1, p.2) (front_more c.args.bytes.now (listed c.loop-task.table) c.loop-task.task c.loop-task.invariant
-          (omega arith) (omega arith) c.row.result c.row.ensures.value (Err c.in-err-add.field-0.0)
-          (listed c.add.new.self) c.in-err-add.ensures.answer c.in-err-add.ensures.state);
+          (omega arith) (omega arith) c.row.result c.row.ensures.value (Err c.in_err-add.field-0.0)
+          (listed c.add.new.self) c.in_err-add.ensures.answer c.in_err-add.ensures.state);
     }
 
 pub loop-task-preserved : goal.loop-task-preserved
 loop-task-preserved c =
     front_more c.args.bytes.now (listed c.loop-task.table) c.loop-task.task c.loop-task.invariant
-    (omega arith) (omega arith) c.row.result c.row.ensures.value (Ok c.in-ok-add.field-0)
-    (listed c.add.new.self) c.in-ok-add.ensures.answer c.in-ok-add.ensures.state
+    (omega arith) (omega arith) c.row.result c.row.ensures.value (Ok c.in_ok-add.field-0)
+    (listed c.add.new.self) c.in_ok-add.ensures.answer c.in_ok-add.ensures.state
 
 pub returns : goal.returns
 returns c =

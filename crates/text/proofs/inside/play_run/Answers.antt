@@ -12,7 +12,7 @@ use Rattle.text.specs.Spoken.{inside, report}
 use Rattle.text.proofs.Printed.{said_whole}
 use Rattle.text.proofs.Turns.{played_on}
 use Rattle.text.proofs.inside.play_run.Goals as goal
-use Rattle.text.proofs.inside.play_run.Goals.{in-Some+in-ok-step+then-branch, in-default}
+use Rattle.text.proofs.inside.play_run.Goals.{in-Some+in_ok-step+then-branch, in_default}
 
 -- The same at other names of the same values.
 moved : {R Z : Type 0} (all : List ℕ) (t t' : String Z) (s s' : Session R) (e e' : Log EndRecord) (r r' : Log Stretch) → t' ≡ t → s' ≡ s
@@ -30,7 +30,7 @@ loop-item-preserved g c =
       played_on l.invariant.0 (ap g.R.OrderRule.before l.invariant.1) (books l.session l.ends l.stretches)
           (books o.new.session o.new.ends o.new.stretches) (string_bytes l.text) (string_bytes o.new.text)
           (items l.reader.rest.now) (items c.next.new.self.rest.now) c.in-Some.item c.in-Some.ensures.items _
-          c.in-ok-step.field-0 false c.if-branch.false l.invariant.4 c.in-ok-step.ensures.said,
+          c.in_ok-step.field-0 false c.if-branch.false l.invariant.4 c.in_ok-step.ensures.said,
     )
 
 pub returns : goal.returns
@@ -43,20 +43,20 @@ returns g c =
     (books c.args.session c.args.ends.now c.args.stretches.now) (items c.args.reader.now.rest.now)) in
     let closed : all ≡ string_bytes m.text ++ printed (report (books m.session m.ends m.stretches)) =
     elim m.branch [
-      | in-Some+in-ok-step+then-branch w ↦
+      | in-Some+in_ok-step+then-branch w ↦
           let o = w.step in
           let said : all ≡ string_bytes o.new.text ++ printed (report (books o.new.session o.new.ends o.new.stretches)) =
           played_on l.invariant.0 (ap g.R.OrderRule.before l.invariant.1) (books l.session l.ends l.stretches)
           (books o.new.session o.new.ends o.new.stretches) (string_bytes l.text) (string_bytes o.new.text)
           (items l.reader.rest.now) (items c.next.new.self.rest.now) w.in-Some.item w.in-Some.ensures.items all
-          w.in-ok-step.field-0 true w.if-branch.true l.invariant.4 w.in-ok-step.ensures.said in
+          w.in_ok-step.field-0 true w.if-branch.true l.invariant.4 w.in_ok-step.ensures.said in
           moved all o.new.text m.text o.new.session m.session o.new.ends m.ends o.new.stretches m.stretches
           w.text-is w.session-is w.ends-is w.stretches-is said
-      | in-default w ↦
+      | in_default w ↦
           moved all l.text m.text l.session m.session l.ends m.ends l.stretches m.stretches
           w.text-is w.session-is w.ends-is w.stretches-is
           (l.invariant.4 ∙ ap (λ (is : List Item). string_bytes l.text ++ printed (inside (set_tasks c.args.session.run)
-          (g.R.OrderRule.before (of_rule c.args.session.run)) (books l.session l.ends l.stretches) is)) w.in-default.ensures.items)
+          (g.R.OrderRule.before (of_rule c.args.session.run)) (books l.session l.ends l.stretches) is)) w.in_default.ensures.items)
     ] in
     record {
       said = said_whole c.finish.result (string_bytes c.finish.new.text) all (string_bytes m.text)

@@ -22,6 +22,6 @@ returns g c =
     ∙ ap (λ o. inside (tasks_of set) (g.R.OrderRule.before o) opened rest) matched.2 in
     record {
       said = said_last r (string_bytes c.args.text.now) text after (bound_lines 0 (bounds_of set) (offsets_of set))
-          (inside (tasks_of set) (g.R.OrderRule.before c.args.rule.now) opened rest) c.in-ok-say_bounds.ensures.bytes
+          (inside (tasks_of set) (g.R.OrderRule.before c.args.rule.now) opened rest) c.in_ok-say_bounds.ensures.bytes
           (subst (λ (ls : List Line). IfOk r (λ _. after ≡ text ++ printed ls)) run c.play_checked.ensures.said);
     }

@@ -15,7 +15,7 @@ loop-task-preserved c =
     said_bound bounds offsets c.loop-task.task (string_bytes c.args.text.now) (string_bytes c.loop-task.text)
     (string_bytes c.say.new.text) c.loop-task-test.true
     (as_long c.args.set.now bounds offsets c.bounds-bounds.ensures.value c.offsets-offsets.ensures.value)
-    c.loop-task.invariant c.in-ok-say.ensures.bytes
+    c.loop-task.invariant c.in_ok-say.ensures.bytes
 
 pub returns : goal.returns
 returns c =

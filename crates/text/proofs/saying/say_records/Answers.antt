@@ -10,7 +10,7 @@ loop-record-preserved g c =
     said_next g.T.Said.spoken c.as_slice-record-items.result.now c.loop-record.record-index c.record-item.result
     (string_bytes c.args.text.now) text (string_bytes c.say.new.text) c.loop-record-test.true c.record-item.is
     c.loop-record.invariant
-    (c.in-ok-say.ensures.bytes ∙ ap (λ l. text ++ printed (l ∷ [])) c.line.ensures.value)
+    (c.in_ok-say.ensures.bytes ∙ ap (λ l. text ++ printed (l ∷ [])) c.line.ensures.value)
 
 pub returns : goal.returns
 returns g c = record {

@@ -25,13 +25,13 @@ pub returns-in-Some-best-2 : goal.returns-in-Some-best-2
 returns-in-Some-best-2 g c =
     let (value, chosen) =
     leader_runs (g.R.OrderRule.laws c.args.rule.now) c.args.tasks.now c.args.self.now c.requires.sound
-    c.loop-task.invariant c.in-default.ensures c.in-Some-best-2.is in
+    c.loop-task.invariant c.in_default.ensures c.in-Some-best-2.is in
     record { value = value; chosen = chosen }
 
 pub returns-in-None-best : goal.returns-in-None-best
 returns-in-None-best g c =
     record {
       value = none_runs (g.R.OrderRule.laws c.args.rule.now) c.args.tasks.now c.args.self.now c.requires.sound
-          c.loop-task.invariant c.in-default.ensures c.in-None-best.is;
+          c.loop-task.invariant c.in_default.ensures c.in-None-best.is;
       chosen = tt;
     }

@@ -3,8 +3,8 @@ use Rattle.script.specs.Commands.{form_of, items, meant}
 use Rattle.script.proofs.Items.{no_items, reads}
 use Rattle.script.proofs.reader.Reader.next.Goals as goal
 
-pub returns-in-default : goal.returns-in-default
-returns-in-default c = record { items = no_items c.args.self.now.rest.now c.in-default.ensures.cases; fair = tt; shorter = tt }
+pub returns-in_default : goal.returns-in_default
+returns-in_default c = record { items = no_items c.args.self.now.rest.now c.in_default.ensures.cases; fair = tt; shorter = tt }
 
 pub returns : goal.returns
 returns c =
