@@ -4,8 +4,8 @@ ghost use Rattle.record_log.specs.Records.{records, room};
 ghost use Rattle.script.specs.Sessions.{alike, noted, outcome, rows, stretch};
 
 use crate::records::{Lost, Row, Stretch, Turn};
-use record_log::Log;
 use model::{Answer, Refusal};
+use record_log::Log;
 
 // Pushes a record, if there is one, and answers whether it is lost.
 pub(crate) fn note<T: Copy>(log: &mut Log<'_, T>, record: Option<T>) -> bool

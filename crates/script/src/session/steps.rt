@@ -14,8 +14,8 @@ use super::{Closed, Session};
 use crate::command::Command;
 use crate::records::{Cause, EndRecord, Lost, Stretch, Turn};
 use dispatch::Checked;
-use record_log::Log;
 use model::{Answer, Call, Refusal};
+use record_log::Log;
 use rules::OrderRule;
 
 impl<'s, R: OrderRule> Session<'s, R> {
