@@ -13,8 +13,8 @@ ghost use Rattle.text.specs.Spoken.{inside, log_room, obeyed, report};
 
 use crate::line::Line;
 use crate::saying::{say, say_loss, say_losses, say_records};
-use record_log::Log;
 use model::Refusal;
+use record_log::Log;
 use rules::OrderRule;
 use script::{Command, EndRecord, Reader, Session, Stretch, Turn};
 use std::alloc::AllocError;

@@ -7,8 +7,8 @@ ghost use Rattle.text.specs.Spoken.{bound_lines, loss, losses};
 
 use crate::line::{Line, Said};
 use admission::Accepted;
-use record_log::Log;
 use model::Refusal;
+use record_log::Log;
 use script::Lost;
 use std::alloc::AllocError;
 

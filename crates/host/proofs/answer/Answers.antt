@@ -52,5 +52,5 @@ returns c =
       answer = said_yes c.args.table.now c.args.rule c.args.res.now
           c.in_ok-check_lengths.ensures.answer c.in_ok-choice.choice c.in_ok-choice.ensures.answer
           (listed c.in_ok-entered.entered) passes entered c.test.new.place c.in_ok-test.ensures.verdict
-          c.write_answers.new.result c.write_answers.ensures.bytes;
+          c.write_answers.new.res c.write_answers.ensures.bytes;
     }

@@ -14,11 +14,11 @@ returns-in-Starts c = record {
   rest = c.start.ensures.rest;
 }
 
-pub returns-in_ok-say : goal.returns-in_ok-say
-returns-in_ok-say c = record {
+pub returns-in_ok-say-in-Err : goal.returns-in_ok-say-in-Err
+returns-in_ok-say-in-Err c = record {
   said = heard_refused c.args.item (desk c.args.setup.now) (desk c.hear.new.setup) (string_bytes c.args.text.now)
       (string_bytes c.say.new.text) (items c.args.reader.now.rest.now) c.in-Err.refusal c.in-Err.ensures.answer
-      c.hear.ensures.state c.in_ok-say.ensures.bytes;
+      c.hear.ensures.state c.in_ok-say-in-Err.ensures.bytes;
   light = c.hear.ensures.light;
   rest = λ _. refl;
 }

@@ -12,24 +12,24 @@ play_set-requires g c = record {
       c.in-Ok.ensures.verdict;
 }
 
-pub returns-in_ok-play_set : goal.returns-in_ok-play_set
-returns-in_ok-play_set g c =
+pub returns-in_ok-play_set-in-Ok : goal.returns-in_ok-play_set-in-Ok
+returns-in_ok-play_set-in-Ok g c =
     let rule = c.args.rule.now in
     record {
       said = tried_yes (listed c.args.table.now) (g.R.OrderRule.points rule) (invariant c.args.table.now)
           (g.R.OrderRule.before rule) (items c.args.reader.now.rest.now) (string_bytes c.args.text.now)
           (string_bytes c.play_set.new.text) c.admit.new.place c.in-Ok.ensures.verdict
-          c.in_ok-play_set.ensures.said;
+          c.in_ok-play_set-in-Ok.ensures.said;
       rest = λ e. absurd (true≢false e);
     }
 
-pub returns-in_ok-say : goal.returns-in_ok-say
-returns-in_ok-say g c =
+pub returns-in_ok-say-in-Err : goal.returns-in_ok-say-in-Err
+returns-in_ok-say-in-Err g c =
     let rule = c.args.rule.now in
     record {
       said = tried_no (listed c.args.table.now) (g.R.OrderRule.points rule) (invariant c.args.table.now)
           (g.R.OrderRule.before rule) (items c.args.reader.now.rest.now) (string_bytes c.args.text.now)
           (string_bytes c.say.new.text) c.new-set.result c.admit.new.place c.in-Err.refusal c.in-Err.ensures.verdict
-          c.in_ok-say.ensures.bytes;
+          c.in_ok-say-in-Err.ensures.bytes;
       rest = λ _. refl;
     }
