@@ -1,5 +1,5 @@
 -- A rule by three bytes: a kind and two weights.
-use Rattle.std.specs.Prelude.{◌≡◌, ℕ, Bool, true, cond, not, ◌&&◌, ◌||◌, List, [], ◌∷◌, ℤ, pos, ◌-ℤ◌, Result, ◌==◌, nat_lt}
+use Rattle.std.specs.Prelude.{◌≡◌, ℕ, Bool, true, cond, not, ◌||◌, List, [], ◌∷◌, ℤ, pos, ◌-ℤ◌, Result, ◌==◌, nat_lt}
 use Rattle.model.specs.Checks.{question}
 use Rattle.model.specs.Rules.{allowed, arrival_point, by_points, deadline_point, level_point, lower_number, weighted_point}
 use Rattle.model.specs.declared.figures.Figures.{Figures}

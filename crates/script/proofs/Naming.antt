@@ -1,12 +1,12 @@
 -- The tasks that answers name are tasks of the set.
-use Rattle.std.proofs.Common.{◌≡◌, ℕ, ◌<◌, Bool, true, false, cond, List, [], ◌∷◌, length, ℤ, Some, None, Err, Option, sym, subst}
+use Rattle.std.proofs.Common.{◌≡◌, ℕ, Bool, true, false, cond, List, [], ◌∷◌, length, ℤ, Some, None, Err, Option, sym, subst}
 use Rattle.model.specs.Checks.{Checks, call}
-use Rattle.model.specs.Machine.{advance, advanced, advancing, complete, completed, completing, next, step, told}
-use Rattle.model.specs.Machine.{releasing, suspending, waking, running}
+use Rattle.model.specs.Machine.{advance, advanced, advancing, complete, next, step, told}
+use Rattle.model.specs.Machine.{releasing, suspending, waking}
 use Rattle.model.specs.Orders.{Lawful}
 use Rattle.model.specs.Processor.{processor}
 use Rattle.model.specs.ProcessorLaw.{Rightful}
-use Rattle.model.specs.State.{State, job}
+use Rattle.model.specs.State.{State}
 use Rattle.model.specs.declared.call.Answer.{Answer}
 use Rattle.model.specs.declared.call.Answer.TheVariants.{Released, Waits, Woken, Finished, Passed}
 use Rattle.model.specs.declared.call.Call.{Call}

@@ -1,5 +1,5 @@
 -- The law of records: what the two logs of a session show is what the transcript of its run shows.
-use Rattle.std.specs.Prelude.{◌≡◌, ℕ, ◌+◌, ◌<◌, ◌≤◌, Bool, true, false, cond, List, [], ◌∷◌, ◌++◌, map, reverse, length, replicate, ℤ, pos, Ok, Err, Option, Result, ◌==◌, slice_index_or}
+use Rattle.std.specs.Prelude.{◌≡◌, ℕ, ◌+◌, ◌<◌, ◌≤◌, Bool, false, cond, List, [], ◌∷◌, ◌++◌, reverse, length, replicate, ℤ, pos, Ok, Err, Option, Result, ◌==◌, slice_index_or}
 use Rattle.std.specs.List.{zip}
 use Rattle.model.specs.Figures.{Tasks}
 use Rattle.model.specs.Machine.{answers}
@@ -14,7 +14,6 @@ use Rattle.model.specs.declared.refusal.Refusal.{Refusal}
 use Rattle.script.specs.Sessions.{Books, alike, called, opened, settled}
 use Rattle.script.specs.declared.records.Cause.TheVariants.{Finish, Count}
 use Rattle.script.specs.declared.records.EndRecord.{EndRecord}
-use Rattle.script.specs.declared.records.Lost.{Lost}
 use Rattle.script.specs.declared.records.Stretch.{Stretch}
 use Rattle.script.specs.declared.records.Turn.{Turn}
 use Rattle.script.specs.declared.records.Turn.TheVariants.{Made, Closes}

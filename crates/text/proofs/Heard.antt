@@ -1,5 +1,5 @@
 -- What items outside of a run say, and what is left to say.
-use Rattle.std.proofs.Common.{◌≡◌, ℕ, Bool, true, false, cond, List, [], ◌∷◌, ◌++◌, IfOk, Ok, Err, Result, sym, refl, ap, ◌∙◌, subst}
+use Rattle.std.proofs.Common.{◌≡◌, ℕ, Bool, true, false, cond, List, [], ◌∷◌, ◌++◌, IfOk, Ok, Err, Result, sym, refl, ap, ◌∙◌}
 use Rattle.model.specs.declared.refusal.Refusal.{Refusal}
 use Rattle.rules.specs.Choices.{chosen_before, chosen_point}
 use Rattle.script.specs.Commands.{Item, items}
@@ -10,7 +10,6 @@ use Rattle.script.specs.declared.setup.Entered.TheVariants.{Starts}
 use Rattle.text.specs.Lines.{printed}
 use Rattle.text.specs.Playing.{Heard, Tried}
 use Rattle.text.specs.Spoken.{entry, heard, outside, run_lines, started, verdict_on}
-use Rattle.text.specs.declared.line.Line.{Line}
 use Rattle.text.specs.declared.line.Line.TheVariants.{Refused}
 use Rattle.text.proofs.Printed.{said_then}
 

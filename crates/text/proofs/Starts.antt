@@ -1,10 +1,10 @@
 -- What a start says by the verdict on its table.
-use Rattle.std.proofs.Common.{◌≡◌, ℕ, ◌<◌, Bool, true, false, List, [], ◌∷◌, ◌++◌, length, get_or, ℤ, pos, Some, None, Option, sym, refl, ap, ◌∙◌, subst, append-nil, arith}
+use Rattle.std.proofs.Common.{◌≡◌, ℕ, Bool, true, false, List, [], ◌∷◌, ◌++◌, length, get_or, ℤ, pos, Some, None, Option, sym, ap, ◌∙◌, append-nil, arith}
 use Rattle.std.proofs.lemmas.List.FromFn.{get_or-map-range_with_len, length-map-range_with_len}
 use Rattle.admission.proofs.Unique.{one_answer}
 use Rattle.admission.specs.Tested.{Granted, Refused as NotGranted}
 use Rattle.admission.specs.Verdicts.{Right, Verdict}
-use Rattle.admission.specs.Views.{bounds_of, offsets_of, points_of, tasks_of}
+use Rattle.admission.specs.Views.{bounds_of, offsets_of, tasks_of}
 use Rattle.admission.specs.declared.accepted.Accepted.{Accepted}
 use Rattle.dispatch.specs.Runs.{Agree}
 use Rattle.model.specs.Figures.{Tasks}

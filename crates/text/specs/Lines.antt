@@ -3,8 +3,6 @@ use Rattle.std.specs.Prelude.{ℕ, List, [], ◌∷◌, ◌++◌, Some, None, co
 use Rattle.model.specs.Refusals.{number}
 use Rattle.script.specs.declared.records.Cause.{Cause}
 use Rattle.script.specs.declared.records.Cause.TheVariants.{Finish, Count}
-use Rattle.script.specs.declared.records.EndRecord.{EndRecord}
-use Rattle.script.specs.declared.records.Stretch.{Stretch}
 use Rattle.text.specs.declared.line.Line.{Line}
 use Rattle.text.specs.declared.line.Line.TheVariants.{Refused, Bound, End, Run}
 

@@ -1,4 +1,4 @@
-use Rattle.std.proofs.Common.{◌≡◌, false, leb, length, refl, ap, arith, length-set}
+use Rattle.std.proofs.Common.{◌≡◌, false, leb, length, refl, arith, length-set}
 use Rattle.std.proofs.lemmas.List.{length-take-le, take_more_set}
 use Rattle.std.proofs.lemmas.Bool.{lt-leb}
 use Rattle.record_log.specs.Records.{records, room}

@@ -1,4 +1,4 @@
-use Rattle.std.proofs.Common.{[], ◌∷◌, ◌++◌, map, string_bytes, ap, ◌∙◌}
+use Rattle.std.proofs.Common.{[], ◌∷◌, ◌++◌, string_bytes, ap, ◌∙◌}
 use Rattle.record_log.specs.Records.{records}
 use Rattle.text.specs.Lines.{printed}
 use Rattle.text.proofs.Printed.{said_all, said_next}

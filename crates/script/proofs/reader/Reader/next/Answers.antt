@@ -1,5 +1,5 @@
-use Rattle.std.proofs.Common.{◌≡◌, ℕ, ◌+◌, ◌≤◌, List, ◌∷◌, length, take, drop, sym, refl, ap, ◌∙◌, arith}
-use Rattle.script.specs.Commands.{form_of, items, meant}
+use Rattle.std.proofs.Common.{ap, ◌∙◌, arith}
+use Rattle.script.specs.Commands.{items}
 use Rattle.script.proofs.Items.{no_items, reads}
 use Rattle.script.proofs.reader.Reader.next.Goals as goal
 
