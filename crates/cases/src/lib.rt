@@ -2,7 +2,7 @@
 #![tactic(auto)]
 
 #[cfg(test)]
-mod rules;
+mod order_rules;
 #[cfg(test)]
 mod runs;
 #[cfg(test)]

@@ -1,7 +1,7 @@
 -- The books of a run: how the state of a task and the jobs that a reading shows of it agree.
 use Rattle.std.proofs.Common.{◌≡◌, ℕ, suc, ◌+◌, ◌<◌, ◌≤◌, true, false, ◌||◌, List, [], ◌∷◌, Some, None, Option, sym, refl, ap, ◌∙◌, arith}
 use Rattle.std.proofs.lemmas.Bool.{both_ways}
-use Rattle.std.specs.List.{AllByRecursion as All}
+use Rattle.std.specs.List.{AllByRecursion}
 use Rattle.model.specs.Promises.{Responds, Supplied}
 use Rattle.model.specs.Reading.{Observed, still_open, undecided, any_open, on_earliest}
 use Rattle.model.specs.State.{is_open, is_waiting}
@@ -29,7 +29,7 @@ abbrev pub Agrees : Figures → ℕ → ℕ → Option Job → List Observed →
 Agrees f bound now None [] = Unit {0}
 Agrees f bound now None (k ∷ ks) = ⊥
 Agrees f bound now (Some j) [] = ⊥
-Agrees f bound now (Some j) (k ∷ ks) = Matches f bound now j k × All (Settled f bound) ks
+Agrees f bound now (Some j) (k ∷ ks) = Matches f bound now j k × AllByRecursion (Settled f bound) ks
 
 -- An open job is younger than the bound.
 abbrev pub Young : ℕ → ℕ → Job → Type 0
@@ -38,14 +38,14 @@ Young bound now j = is_open j.phase ≡ true → now < j.release + bound
 module _ (f : Figures) (bound : ℕ) where
   -- A task that was never released has no jobs, and any other has a latest one.
   pub by_books : (P : Option Job → List Observed → Type 0) {now : ℕ} → P None []
-      → ((j : Job) (k : Observed) (ks : List Observed) → Matches f bound now j k → All (Settled f bound) ks → P (Some j) (k ∷ ks))
+      → ((j : Job) (k : Observed) (ks : List Observed) → Matches f bound now j k → AllByRecursion (Settled f bound) ks → P (Some j) (k ∷ ks))
       → (o : Option Job) (js : List Observed) → Agrees f bound now o js → P o js
   by_books P never latest None [] a = never
   by_books P never latest None (k ∷ ks) a = absurd a
   by_books P never latest (Some j) [] a = absurd a
   by_books P never latest (Some j) (k ∷ ks) (m, all) = latest j k ks m all
 
-  pub none_open : (ks : List Observed) → All (Settled f bound) ks → any_open ks ≡ false
+  pub none_open : (ks : List Observed) → AllByRecursion (Settled f bound) ks → any_open ks ≡ false
   none_open [] all = refl
   none_open (k ∷ ks) (here, rest) = ap (λ b. b || any_open ks) here.decided ∙ none_open ks rest
 

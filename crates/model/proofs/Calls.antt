@@ -2,7 +2,7 @@
 use Rattle.std.proofs.Common.{◌≡◌, ℕ, ◌+◌, ◌-◌, ◌<◌, ◌≤◌, Bool, true, false, List, [], ◌∷◌, ℤ, Some, None, Option, unwrap_or, sym, refl, ◌∙◌, subst, le_trans, le_refl, arith}
 use Rattle.std.proofs.ByRecursion.{All-weaker}
 use Rattle.std.proofs.lemmas.Bool.{true≢false, false≢true, cond_both, ltb-false}
-use Rattle.std.specs.List.{AllByRecursion as All}
+use Rattle.std.specs.List.{AllByRecursion}
 use Rattle.model.specs.Figures.{Fit}
 use Rattle.model.specs.Machine.{too_soon}
 use Rattle.model.specs.Reading.{Observed, still_open, any_open, finished, on_earliest}
@@ -29,10 +29,10 @@ module _ (f : Figures) (fit : Fit f) (limit now : ℕ) where
       go false opened = refl
 
   apart_by_now : (o : Option Job) (js : List Observed) → Agrees f limit now o js → Gaps f.period (releases js)
-      → too_soon f.period now o ≡ false → All (λ x. x + f.period ≤ now) (releases js)
+      → too_soon f.period now o ≡ false → AllByRecursion (λ x. x + f.period ≤ now) (releases js)
   apart_by_now =
       by_books f limit
-      (λ o js. Gaps f.period (releases js) → too_soon f.period now o ≡ false → All (λ x. x + f.period ≤ now) (releases js))
+      (λ o js. Gaps f.period (releases js) → too_soon f.period now o ≡ false → AllByRecursion (λ x. x + f.period ≤ now) (releases js))
       (λ _ _. tt)
       (λ j k ks m all gaps e.
       let here : k.release + f.period ≤ now = omega (arith, m.release, ltb-false _ _ e) in

@@ -2,7 +2,7 @@
 use Rattle.std.proofs.Common.{◌≡◌, ℕ, ◌+◌, ◌<◌, ◌≤◌, Bool, true, false, List, [], ◌∷◌, length, get_or, ℤ, Some, None, Option, unwrap_or, refl, arith}
 use Rattle.std.proofs.ByRecursion.{All-weaker}
 use Rattle.std.proofs.lemmas.Bool.{false≢true}
-use Rattle.std.specs.List.{AllByRecursion as All}
+use Rattle.std.specs.List.{AllByRecursion}
 use Rattle.model.specs.Figures.{no_task}
 use Rattle.model.specs.Promises.{Responds, Supplied}
 use Rattle.model.specs.Reading.{Observed, Fate, still_open, by_tick, by_finish}
@@ -35,7 +35,7 @@ module _ {tasks : List Figures} {bounds : List ℕ} {point : ℕ → ℤ} {now :
   Ended = Settled (figures tasks i) (bound bounds i)
 
   from_books : (P : Option Job → List Observed → Type 0) → P None []
-      → ((j : Job) (k : Observed) (ks : List Observed) → Matches (figures tasks i) (bound bounds i) now j k → All Ended ks
+      → ((j : Job) (k : Observed) (ks : List Observed) → Matches (figures tasks i) (bound bounds i) now j k → AllByRecursion Ended ks
       → P (Some j) (k ∷ ks))
       → P o js
   from_books P never latest = by_books (figures tasks i) (bound bounds i) P never latest o js sound.agrees
@@ -51,15 +51,15 @@ module _ {tasks : List Figures} {bounds : List ℕ} {point : ℕ → ℤ} {now :
       → ((unwrap_or o no_job).given < (figures tasks i).execution) × ((unwrap_or o no_job).waited ≤ (figures tasks i).suspension))
       (λ e. absurd (false≢true e)) (λ j k ks m all e. (omega (arith, m.given, (m.opened e).1), m.waited))
 
-  pub all_ended : is_open (unwrap_or o no_job).phase ≡ false → All Ended js
+  pub all_ended : is_open (unwrap_or o no_job).phase ≡ false → AllByRecursion Ended js
   all_ended =
-      from_books (λ o js. is_open (unwrap_or o no_job).phase ≡ false → All Ended js) (λ _. tt) (λ j k ks m all e. (m.closed e, all))
+      from_books (λ o js. is_open (unwrap_or o no_job).phase ≡ false → AllByRecursion Ended js) (λ _. tt) (λ j k ks m all e. (m.closed e, all))
 
   -- What is promised of every job.
-  pub all_respond : Young (bound bounds i) now (unwrap_or o no_job) → All (λ k. Responds (bound bounds i) now k.release k.fate) js
+  pub all_respond : Young (bound bounds i) now (unwrap_or o no_job) → AllByRecursion (λ k. Responds (bound bounds i) now k.release k.fate) js
   all_respond =
       from_books
-      (λ o js. Young (bound bounds i) now (unwrap_or o no_job) → All (λ k. Responds (bound bounds i) now k.release k.fate) js)
+      (λ o js. Young (bound bounds i) now (unwrap_or o no_job) → AllByRecursion (λ k. Responds (bound bounds i) now k.release k.fate) js)
       (λ _. tt)
       (λ j k ks m all young. (here j k m young (is_open j.phase) refl, All-weaker _ _ (λ y ended. ended.responds now) ks all))
     where
@@ -71,16 +71,16 @@ module _ {tasks : List Figures} {bounds : List ℕ} {point : ℕ → ℤ} {now :
   abbrev Exact : Observed → Type 0
   Exact k = Supplied (figures tasks i).execution k.release k.given k.fate
 
-  pub all_supplied : All Exact js
+  pub all_supplied : AllByRecursion Exact js
   all_supplied =
-      from_books (λ o js. All Exact js) tt
+      from_books (λ o js. AllByRecursion Exact js) tt
       (λ j k ks m all. (here j k m (is_open j.phase) refl, All-weaker _ _ (λ y ended. ended.supplied) ks all))
     where
       here : (j : Job) (k : Observed) → Matches (figures tasks i) (bound bounds i) now j k → (b : Bool) → is_open j.phase ≡ b → Exact k
       here j k m true e = rw (m.opened e).0 (m.opened e).1
       here j k m false e = (m.closed e).supplied
 
-  pub given_most : All (λ k. k.given ≤ (figures tasks i).execution) js
+  pub given_most : AllByRecursion (λ k. k.given ≤ (figures tasks i).execution) js
   given_most = All-weaker _ _ (λ k exact. most (figures tasks i).execution k.release k.given k.fate exact) js all_supplied
     where
       most : (execution release given : ℕ) (fate : Fate) → Supplied execution release given fate → given ≤ execution
@@ -88,15 +88,15 @@ module _ {tasks : List Figures} {bounds : List ℕ} {point : ℕ → ℤ} {now :
       most execution release given (by_tick end) exact = omega arith
       most execution release given (by_finish end answered) exact = omega arith
 
-  pub all_before : (limit : ℕ) → (unwrap_or o no_job).release < limit → All (λ k. k.release < limit) js
+  pub all_before : (limit : ℕ) → (unwrap_or o no_job).release < limit → AllByRecursion (λ k. k.release < limit) js
   all_before limit =
       from_books
-      (λ o js. Gaps (figures tasks i).period (releases js) → (unwrap_or o no_job).release < limit → All (λ k. k.release < limit) js)
+      (λ o js. Gaps (figures tasks i).period (releases js) → (unwrap_or o no_job).release < limit → AllByRecursion (λ k. k.release < limit) js)
       (λ _ _. tt) (λ j k ks m all gaps past. (omega (arith, m.release), below k ks (omega (arith, m.release)) gaps.0))
       sound.spaced
     where
       below : (k : Observed) (ks : List Observed) → k.release < limit
-          → All (λ x. x + (figures tasks i).period ≤ k.release) (releases ks) → All (λ y. y.release < limit) ks
+          → AllByRecursion (λ x. x + (figures tasks i).period ≤ k.release) (releases ks) → AllByRecursion (λ y. y.release < limit) ks
       below k [] past far = tt
       below k (y ∷ ys) past far = (omega (arith, far.0), below k ys past far.1)
 

@@ -1,11 +1,11 @@
 -- Numbers that stand a period apart: of several that pass a test, the first and the last are far apart.
 use Rattle.std.proofs.Common.{◌≡◌, ℕ, zero, suc, ◌+◌, ◌*◌, ◌≤◌, Bool, true, false, cond, List, [], ◌∷◌, refl, suc-mul, zero-mul, arith}
-use Rattle.std.specs.List.{AllByRecursion as All}
+use Rattle.std.specs.List.{AllByRecursion}
 
 -- Newest first: every number is at least a period above all that follow.
 abbrev pub Gaps : ℕ → List ℕ → Type 0
 Gaps t [] = Unit {0}
-Gaps t (x ∷ xs) = All (λ y. y + t ≤ x) xs × Gaps t xs
+Gaps t (x ∷ xs) = AllByRecursion (λ y. y + t ≤ x) xs × Gaps t xs
 
 -- How many pass the test.
 abbrev pub many : (ℕ → Bool) → List ℕ → ℕ
@@ -21,7 +21,7 @@ module _ (t : ℕ) (q : ℕ → Bool) where
   abbrev Spread : List ℕ → Type 0
   Spread xs = (c : ℕ) → many q xs ≡ suc c → (first last : ℕ) × (q first ≡ true) × (q last ≡ true) × (first + c * t ≤ last)
 
-  under : (xs : List ℕ) (x : ℕ) → All (λ y. y + t ≤ x) xs → Gaps t xs → Under xs x
+  under : (xs : List ℕ) (x : ℕ) → AllByRecursion (λ y. y + t ≤ x) xs → Gaps t xs → Under xs x
   under [] x below gaps c e = absurd (omega arith)
   under (y ∷ ys) x below gaps c e = go (q y) refl (under ys x below.1 gaps.1) (under ys y gaps.0 gaps.1) c e
     where

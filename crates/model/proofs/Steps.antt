@@ -2,7 +2,7 @@
 use Rattle.std.proofs.Common.{◌≡◌, ℕ, zero, suc, ◌+◌, ◌-◌, ◌<◌, ◌≤◌, Bool, true, false, cond, not, ◌&&◌, eqb, List, [], ◌∷◌, length, take, drop, ℤ, Some, None, Err, Option, unwrap_or, sym, refl, ap, ◌∙◌, subst, ⊎_elim, arith}
 use Rattle.std.proofs.lemmas.Bool.{cases_eq, cases_lt, both_ways, false≢true, not-false, and_from, and_left, eq-eqb, ne_eqb, eqb-false, leb-false}
 use Rattle.std.specs.Option.{option_map}
-use Rattle.std.specs.List.{AllByRecursion as All}
+use Rattle.std.specs.List.{AllByRecursion}
 use Rattle.model.specs.Checks.{Checks, call}
 use Rattle.model.specs.Machine.{no_such_task, releasing, step, too_soon, told, waking}
 use Rattle.model.specs.Machine.{advance, advanced, advancing, complete, completed, next, runs, suspend, suspending}
@@ -65,12 +65,12 @@ module _ {tasks : List Figures} {points : List ℤ} {bounds : List ℕ} {point :
 
   -- A call that is refused changes nothing; one that is granted passed its checks.
   unless_refused : {A : Type 0} (c : Call) (wrap : A → Answer) (checks : Checks) (answer : A) (next : State)
-      → (All (λ check. check.0 ≡ false) checks → After c (wrap answer, next)) → After c (told wrap (call checks s answer next))
+      → (AllByRecursion (λ check. check.0 ≡ false) checks → After c (wrap answer, next)) → After c (told wrap (call checks s answer next))
   unless_refused c wrap [] answer next granted = granted tt
   unless_refused c wrap (check ∷ rest) answer next granted = go check.0 refl (unless_refused c wrap rest answer next)
     where
       go : (b : Bool) → check.0 ≡ b
-          → ((All (λ check. check.0 ≡ false) rest → After c (wrap answer, next)) → After c (told wrap (call rest s answer next)))
+          → ((AllByRecursion (λ check. check.0 ≡ false) rest → After c (wrap answer, next)) → After c (told wrap (call rest s answer next)))
           → After c (told wrap (cond b (Err check.1, s) (call rest s answer next)))
       go true e others = kept
       go false e others = others (λ all. granted (e, all))

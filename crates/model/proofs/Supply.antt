@@ -2,7 +2,7 @@
 use Rattle.std.proofs.Common.{◌≡◌, ℕ, zero, suc, ◌+◌, ◌*◌, ◌<◌, ◌≤◌, Bool, true, false, cond, ◌&&◌, eqb, ltb, List, [], ◌∷◌, map, take, Some, None, Option, sym, refl, ap, ◌∙◌, le_trans, le_refl, suc-mul, arith}
 use Rattle.std.proofs.lemmas.Bool.{and_parts, and_from, and_left, and_right, ltb-true, lt-ltb, eq-eqb}
 use Rattle.std.specs.Option.{option_map}
-use Rattle.std.specs.List.{AllByRecursion as All}
+use Rattle.std.specs.List.{AllByRecursion}
 use Rattle.model.specs.Promises.{given_to}
 use Rattle.model.specs.Reading.{Observed}
 use Rattle.model.specs.declared.job.JobId.{JobId}
@@ -30,7 +30,7 @@ abbrev pub supplied : (ℕ → Bool) → List Observed → ℕ
 supplied q [] = 0
 supplied q (j ∷ js) = cond (q j.release) (j.given + supplied q js) (supplied q js)
 
-pub supplied_wider : (p q : ℕ → Bool) (js : List Observed) → All (λ j. p j.release ≡ true → q j.release ≡ true) js
+pub supplied_wider : (p q : ℕ → Bool) (js : List Observed) → AllByRecursion (λ j. p j.release ≡ true → q j.release ≡ true) js
     → supplied p js ≤ supplied q js
 supplied_wider p q [] wider = le_refl 0
 supplied_wider p q (j ∷ js) wider = go (p j.release) refl (q j.release) refl (supplied_wider p q js wider.1)
@@ -41,7 +41,7 @@ supplied_wider p q (j ∷ js) wider = go (p j.release) refl (q j.release) refl (
     go false e true f rest = rw (e, f) (omega arith)
     go false e false f rest = rw (e, f) rest
 
-pub supplied_most : (q : ℕ → Bool) (most : ℕ) (js : List Observed) → All (λ j. j.given ≤ most) js
+pub supplied_most : (q : ℕ → Bool) (most : ℕ) (js : List Observed) → AllByRecursion (λ j. j.given ≤ most) js
     → supplied q js ≤ many q (releases js) * most
 supplied_most q most [] all = omega arith
 supplied_most q most (j ∷ js) all = go (q j.release) refl (supplied_most q most js all.1)
@@ -70,7 +70,7 @@ supplied_later : (bound now w : ℕ) (p : ℕ → Bool) (js : List Observed)
 supplied_later bound now w p js = supplied_wider _ _ js (go js)
   where
     go : (js : List Observed)
-        → All (λ j. recent bound now w p j.release ≡ true → recent bound (suc now) (suc w) p j.release ≡ true) js
+        → AllByRecursion (λ j. recent bound now w p j.release ≡ true → recent bound (suc now) (suc w) p j.release ≡ true) js
     go [] = tt
     go (j ∷ js) = (later bound now w p j.release, go js)
 
@@ -104,7 +104,7 @@ supply_own bound now i h j more js a task release same one_more young supply p (
         rw (other, is) (le_trans before (supplied_later bound now w p js))
 
 pub supply_most : (bound now i : ℕ) (h : History) (js : List Observed) → Supply bound now h i js
-    → (most : ℕ) → All (λ j. j.given ≤ most) js → (p : ℕ → Bool) (w : ℕ)
+    → (most : ℕ) → AllByRecursion (λ j. j.given ≤ most) js → (p : ℕ → Bool) (w : ℕ)
     → tally i p (take w h) ≤ many (recent bound now w p) (releases js) * most
 supply_most bound now i h js supply most all p w = le_trans (supply p w) (supplied_most (recent bound now w p) most js all)
 

@@ -3,7 +3,7 @@ use Rattle.std.proofs.Common.{◌≡◌, ℕ, ◌+◌, ◌-◌, ◌*◌, ◌<◌
 use Rattle.std.proofs.ByRecursion.{All-weaker}
 use Rattle.std.proofs.lemmas.Int.{ints}
 use Rattle.std.proofs.lemmas.Bool.{and_parts, and_from, ltb-true, lt-ltb}
-use Rattle.std.specs.List.{AllByRecursion as All}
+use Rattle.std.specs.List.{AllByRecursion}
 use Rattle.model.specs.Reading.{Observed}
 use Rattle.model.specs.Test.{periods}
 use Rattle.model.proofs.Counts.{periods_spaced}
@@ -11,7 +11,7 @@ use Rattle.model.proofs.Spacing.{Gaps, many, many_most}
 use Rattle.model.proofs.Supply.{History, Supply, tally, recent, releases, supplied_wider, supplied_most}
 
 module _ (bound now i period most : ℕ) (h : History) (js : List Observed) (supply : Supply bound now h i js)
-    (spaced : Gaps period (releases js)) (given : All (λ j. j.given ≤ most) js) (past : All (λ j. j.release < now) js)
+    (spaced : Gaps period (releases js)) (given : AllByRecursion (λ j. j.given ≤ most) js) (past : AllByRecursion (λ j. j.release < now) js)
     (one : 1 ≤ period) (w : ℕ) (some : 1 ≤ w) where
   -- The releases of jobs that were given one of the last w ticks.
   abbrev near : ℕ → Bool

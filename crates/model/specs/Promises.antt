@@ -1,6 +1,6 @@
 -- What every run promises, over the figures and bounds of the tasks and a reading of its transcript.
 use Rattle.std.specs.Prelude.{◌≡◌, ℕ, suc, ◌+◌, ◌-◌, ◌*◌, ◌<◌, ◌≤◌, true, cond, List, [], ◌∷◌, length, take, drop, pos, Some, None, Option, ◌==◌, slice_index, slice_index_or}
-use Rattle.std.specs.List.{AllByRecursion as All}
+use Rattle.std.specs.List.{AllByRecursion}
 use Rattle.model.specs.Figures.{no_task}
 use Rattle.model.specs.Reading.{Reading, Fate, still_open, by_tick, by_finish, now}
 use Rattle.model.specs.Test.{periods}
@@ -34,9 +34,9 @@ pub record Promises (tasks : List Figures) (bounds : List ℕ) (r : Reading) : T
   pub of_the_set : (k : ℕ) → length tasks ≤ k → r.jobs k ≡ []
   -- Every job responds within its task's bound R, and is given what its task's C says.
   pub response : (k : ℕ) → k < length tasks →
-      All (λ j. Responds (slice_index bounds k) (now r) j.release j.fate) (r.jobs k)
+      AllByRecursion (λ j. Responds (slice_index bounds k) (now r) j.release j.fate) (r.jobs k)
   pub supply : (k : ℕ) → k < length tasks →
-      All (λ j. Supplied (slice_index_or tasks k no_task).execution j.release j.given j.fate) (r.jobs k)
+      AllByRecursion (λ j. Supplied (slice_index_or tasks k no_task).execution j.release j.given j.fate) (r.jobs k)
   -- Of any `long` ticks in a row, whatever ticks came later, at most C × ⌈(long + R − 1) / T⌉ are given to a task.
   pub window : (k : ℕ) → k < length tasks → (later long : ℕ) → 1 ≤ long →
       given_to k (take long (drop later r.ticks))

@@ -3,7 +3,7 @@ use Rattle.std.proofs.Common.{◌≡◌, ℕ, ◌≤◌, Bool, true, false, cond
 use Rattle.std.proofs.ByRecursion.{All-append, All-weaker}
 use Rattle.std.proofs.lemmas.Bool.{and_parts, both_ways, cases_eq, eq-eqb, false≢true, ne_eqb}
 use Rattle.std.specs.Option.{option_map}
-use Rattle.std.specs.List.{AllByRecursion as All}
+use Rattle.std.specs.List.{AllByRecursion}
 use Rattle.model.proofs.Books.{Agrees, none_open, on_latest}
 use Rattle.model.proofs.Kept.{Kept}
 use Rattle.model.proofs.Sound.{bound, figures}
@@ -135,7 +135,7 @@ module _ {tasks : List Figures} {bounds : List ℕ} {point : ℕ → ℤ} {s aft
   answer_shown c (Refused why) kept' = unchanged r.jobs
 
 -- The end that a call brings is at the clock after it, and no end before it is later.
-ended_now : (answer : Answer) (s : State) → All (λ e. e.end ≡ s.clock) (listed (ended_by answer s))
+ended_now : (answer : Answer) (s : State) → AllByRecursion (λ e. e.end ≡ s.clock) (listed (ended_by answer s))
 ended_now (Released clock) s = tt
 ended_now (Waits task) s = tt
 ended_now (Woken waited) s = tt
@@ -143,15 +143,15 @@ ended_now (Finished e) s = (refl, tt)
 ended_now (Passed t) s = go t.ran t.ended
   where
     go : (ran : Option ℕ) (ended : Bool)
-        → All (λ e. e.end ≡ s.clock) (listed (cond ended (option_map (λ task. end_of task Count s) ran) None))
+        → AllByRecursion (λ e. e.end ≡ s.clock) (listed (cond ended (option_map (λ task. end_of task Count s) ran) None))
     go None true = tt
     go None false = tt
     go (Some task) true = (refl, tt)
     go (Some task) false = tt
 ended_now (Refused why) s = tt
 
-ascend_more : (clock later : ℕ) (es new : List EndRecord) → clock ≤ later → All (λ e. e.end ≤ later) es
-    → All (λ e. e.end ≡ later) new → Ascend clock es → Ascend clock (es ++ new)
+ascend_more : (clock later : ℕ) (es new : List EndRecord) → clock ≤ later → AllByRecursion (λ e. e.end ≤ later) es
+    → AllByRecursion (λ e. e.end ≡ later) new → Ascend clock es → Ascend clock (es ++ new)
 ascend_more clock later [] [] l past at order = tt
 ascend_more clock later [] (e ∷ new) l past at order =
     (omega (arith, at.0), ascend_more e.end later [] new (omega (arith, at.0)) tt at.1 tt)
@@ -161,7 +161,7 @@ ascend_more clock later (e ∷ es) new l past at order =
 -- The end records are the ended jobs, and none is later than the reading.
 pub record Recorded (r : Reading) (ends : List EndRecord) : Type 0 where
   pub ends_are : EndsAre r ends
-  pub past : All (λ e. e.end ≤ now r) ends
+  pub past : AllByRecursion (λ e. e.end ≤ now r) ends
 
 pub ends_go : {tasks : List Figures} {bounds : List ℕ} {point : ℕ → ℤ} {s after : State} {r : Reading} {ends : List EndRecord}
     → Kept tasks bounds point s r → (c : Call) (answer : Answer) → Kept tasks bounds point after (read c answer r)
@@ -179,8 +179,8 @@ ends_go {after} {r} {ends} kept c answer kept' rec =
     new : List EndRecord
     new = listed (ended_by answer after)
 
-    past : All (λ e. e.end ≤ now (read c answer r)) ends
+    past : AllByRecursion (λ e. e.end ≤ now (read c answer r)) ends
     past = All-weaker _ _ (λ e here. omega (arith, ticks_grow c answer r)) ends rec.past
 
-    at : All (λ e. e.end ≡ now (read c answer r)) new
+    at : AllByRecursion (λ e. e.end ≡ now (read c answer r)) new
     at = All-weaker _ _ (λ e here. here ∙ sym kept'.clock) new (ended_now answer after)
