@@ -14,8 +14,8 @@ use Rattle.dispatch.specs.Sound.{Sound, in_bounds, state_of}
 use Rattle.dispatch.specs.declared.board.Board.{Board}
 
 -- An element after one was set.
-pub get_d_set : {A : Type 0} (xs : List A) (k : ℕ) (x d : A) (i : ℕ) → k < length xs → get_or (set xs k x) i d ≡ cond (eqb i k) x (get_or xs i d)
-get_d_set xs k x d i h =
+pub get_or_set : {A : Type 0} (xs : List A) (k : ℕ) (x d : A) (i : ℕ) → k < length xs → get_or (set xs k x) i d ≡ cond (eqb i k) x (get_or xs i d)
+get_or_set xs k x d i h =
     ⊎_elim
     (λ (same : i ≡ k).
     let t : eqb i k ≡ true = grind (arith, nat_tests) in
@@ -61,7 +61,7 @@ module _ (tasks : List Figures) (b after : Board) (task : ℕ) (j : Job) (within
     (waiting : (i : ℕ) → has after.waiting i ≡ cond (eqb i task) (is_waiting j.phase) (has b.waiting i))
     (sound : Sound tasks b) where
   at : (i : ℕ) → get_or after.jobs i None ≡ cond (eqb i task) (Some j) (get_or b.jobs i None)
-  at i = ap (λ (js : List (Option Job)). get_or js i None) jobs ∙ get_d_set b.jobs task (Some j) None i (omega (arith, sound.0))
+  at i = ap (λ (js : List (Option Job)). get_or js i None) jobs ∙ get_or_set b.jobs task (Some j) None i (omega (arith, sound.0))
 
   pub put_state : state_of after ≡ put task j (state_of b)
   put_state = state_is after.clock b.clock (λ i. get_or after.jobs i None) (put task j (state_of b)).latest clock at

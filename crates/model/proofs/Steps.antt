@@ -66,12 +66,12 @@ module _ {tasks : List Figures} {points : List ℤ} {bounds : List ℕ} {point :
   -- A call that is refused changes nothing; one that is granted passed its checks.
   unless_refused : {A : Type 0} (c : Call) (wrap : A → Answer) (checks : Checks) (answer : A) (next : State)
       → (AllByRecursion (λ check. check.0 ≡ false) checks → After c (wrap answer, next)) → After c (told wrap (call checks s answer next))
-  unless_refused c wrap [] answer next granted = granted tt
-  unless_refused c wrap (check ∷ rest) answer next granted = go check.0 refl (unless_refused c wrap rest answer next)
+  unless_refused c wrap [] answer s' granted = granted tt
+  unless_refused c wrap (check ∷ rest) answer s' granted = go check.0 refl (unless_refused c wrap rest answer s')
     where
       go : (b : Bool) → check.0 ≡ b
-          → ((AllByRecursion (λ check. check.0 ≡ false) rest → After c (wrap answer, next)) → After c (told wrap (call rest s answer next)))
-          → After c (told wrap (cond b (Err check.1, s) (call rest s answer next)))
+          → ((AllByRecursion (λ check. check.0 ≡ false) rest → After c (wrap answer, s')) → After c (told wrap (call rest s answer s')))
+          → After c (told wrap (cond b (Err check.1, s) (call rest s answer s')))
       go true e others = kept
       go false e others = others (λ all. granted (e, all))
 
