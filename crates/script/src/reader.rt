@@ -1,7 +1,7 @@
 //! Reading the commands of a script one by one.
 ghost use Rattle.std.specs.Prelude.{◌≡◌, ◌<◌, [], ◌∷◌, length, IfSome, Some, MatchOption, OnSome};
 ghost use Rattle.std.specs.Option.{option_map};
-ghost use Rattle.script.specs.Commands.{Fair, form_of, items, meant, rule as a-rule, task as a-task};
+ghost use Rattle.script.specs.Commands.{Fair, form_of, items, meant, rule as a_rule, task as a_task};
 
 use crate::command::Command;
 use model::{Call, Figures, Refusal};
@@ -28,7 +28,7 @@ fn operands(byte: u8) -> Option<usize>
 
 fn task(bytes: &[u8]) -> Result<Command, Refusal>
     requires { length bytes.now ≡ 8 }
-    ensures value { result ≡ a-task bytes.now }
+    ensures value { result ≡ a_task bytes.now }
     ensures fair { Fair result }
 {
     Ok(Command::Task(Figures::from_bytes([
@@ -38,7 +38,7 @@ fn task(bytes: &[u8]) -> Result<Command, Refusal>
 
 fn rule(bytes: &[u8]) -> Result<Command, Refusal>
     requires { length bytes.now ≡ 3 }
-    ensures value { result ≡ a-rule bytes.now }
+    ensures value { result ≡ a_rule bytes.now }
     ensures fair { Fair result }
 {
     match Choice::from_bytes([bytes[0], bytes[1], bytes[2]]) {

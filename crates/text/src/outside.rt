@@ -10,7 +10,7 @@ ghost use Rattle.script.specs.Views.{desk};
 ghost use Rattle.tasks.specs.Listed.{listed};
 ghost use Rattle.text.specs.Lines.{printed};
 ghost use Rattle.text.specs.Playing.{Heard, Tried};
-ghost use Rattle.text.specs.Spoken.{bound_lines, heard, inside, text as script-text};
+ghost use Rattle.text.specs.Spoken.{bound_lines, heard, inside, text as script_text};
 
 use crate::inside::play_run;
 use crate::line::Line;
@@ -147,7 +147,7 @@ fn step(
 /// The text of a script: every line that its commands say, in their order, each ended by byte 0A. Want of memory is the
 /// only other answer.
 pub fn play(heap: Global, script: &[u8]) -> Result<String, AllocError>
-    ensures text { IfOk result (λ t. (verdict : Verdict) → Right verdict → string_bytes t ≡ script-text verdict script.now) }
+    ensures text { IfOk result (λ t. (verdict : Verdict) → Right verdict → string_bytes t ≡ script_text verdict script.now) }
 {
     let mut text = String::new(heap);
     let mut reader = Reader::new(script);
