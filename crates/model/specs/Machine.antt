@@ -1,5 +1,5 @@
 -- The machine: what every call on a run answers, and the state that it leaves.
-use Rattle.std.specs.Prelude.{ℕ, ◌+◌, ◌-◌, Bool, false, cond, not, ◌&&◌, List, [], ◌∷◌, length, get_or, is_some, Some, None, Ok, Err, Option, Result, ◌==◌, nat_le, nat_lt, slice_index, slice_index_or}
+use Rattle.std.specs.Prelude.{ℕ, ◌+◌, ◌-◌, Bool, false, cond, not, ◌&&◌, List, [], ◌∷◌, length, is_some, Some, None, Ok, Err, Option, Result, ◌==◌, nat_le, nat_lt, slice_index, slice_index_or}
 use Rattle.std.specs.Option.{unwrap_or, option_map}
 use Rattle.model.specs.Checks.{Checks, call, of_task}
 use Rattle.model.specs.Figures.{no_task}
@@ -37,7 +37,7 @@ too_soon period clock (Some j) = nat_lt (clock - j.release) period
 abbrev pub releasing : List Figures → ℕ → State → Checks
 releasing tasks task s =
     (no_such_task tasks task, NoSuchTask)
-    ∷ (too_soon (get_or tasks task no_task).period s.clock (s.latest task), ReleasedTooSoon)
+    ∷ (too_soon (slice_index_or tasks task no_task).period s.clock (s.latest task), ReleasedTooSoon)
     ∷ []
 
 -- A release opens a ready job with both counts 0, and answers the clock.
@@ -98,7 +98,7 @@ module _ (tasks : List Figures) (chosen : Option ℕ) (s : State) where
   abbrev pub suspending : Checks
   suspending =
       (not (is_some chosen), NoReadyJob)
-      ∷ (((job s running).waited == (get_or tasks running no_task).suspension), SuspensionSpent)
+      ∷ (((job s running).waited == (slice_index_or tasks running no_task).suspension), SuspensionSpent)
       ∷ []
 
   -- The job becomes waiting; the answer is its task.

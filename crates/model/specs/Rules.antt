@@ -1,5 +1,5 @@
 -- The order rules of the library: their points, and who goes first.
-use Rattle.std.specs.Prelude.{ℕ, suc, Bool, true, false, cond, ◌&&◌, List, length, get_or, ℤ, pos, ◌+ℤ◌, ◌*ℤ◌, neg_ℤ, int_le, int_lt, nat_lt, slice_index_or}
+use Rattle.std.specs.Prelude.{ℕ, suc, Bool, true, false, cond, ◌&&◌, List, length, ℤ, pos, ◌+ℤ◌, ◌*ℤ◌, neg_ℤ, int_le, int_lt, nat_lt, slice_index_or}
 use Rattle.std.specs.Int.{int_max, int_min}
 use Rattle.model.specs.Figures.{no_task}
 use Rattle.model.specs.Orders.{priority, farthest}
@@ -13,7 +13,7 @@ pointed tasks point i = cond (nat_lt i (length tasks)) (point i) (pos 0)
 
 -- D of a task.
 abbrev pub deadline : List Figures → ℕ → ℕ
-deadline tasks i = (get_or tasks i no_task).deadline
+deadline tasks i = (slice_index_or tasks i no_task).deadline
 
 -- The deadline rule: the point of a task is its D.
 abbrev pub deadline_point : List Figures → ℕ → ℤ

@@ -1,5 +1,5 @@
 -- Tests that ask for less than the test of the library, and runs that they would mislead.
-use Rattle.std.specs.Prelude.{◌≡◌, ℕ, ◌+◌, ◌-◌, ◌*◌, ◌/◌, Bool, true, cond, ◌&&◌, List, [], ◌∷◌, length, get_or, ℤ, pos, negsuc, ◌+ℤ◌, ◌-ℤ◌, ◌==◌, nat_le, slice_index, slice_index_or}
+use Rattle.std.specs.Prelude.{◌≡◌, ℕ, ◌+◌, ◌-◌, ◌*◌, ◌/◌, Bool, true, cond, ◌&&◌, List, [], ◌∷◌, length, ℤ, pos, negsuc, ◌+ℤ◌, ◌-ℤ◌, ◌==◌, nat_le, slice_index, slice_index_or}
 use Rattle.model.specs.Figures.{Tasks, no_task}
 use Rattle.model.specs.Orders.{Lawful}
 use Rattle.model.specs.Processor.{every_below}
@@ -17,8 +17,8 @@ total_by own count tasks points bounds k q =
     (own (slice_index_or tasks k no_task) + q)
     + sum_to (length tasks)
     (λ i. cond (i == k) 0
-    (count (slice_index_or points k (pos 0)) (slice_index_or points i (pos 0)) (slice_index bounds i) (get_or tasks i no_task).period q
-    * (get_or tasks i no_task).execution))
+    (count (slice_index_or points k (pos 0)) (slice_index_or points i (pos 0)) (slice_index bounds i) (slice_index_or tasks i no_task).period q
+    * (slice_index_or tasks i no_task).execution))
 
 -- What the own task needs: C + S.
 abbrev pub needs : Figures → ℕ
@@ -55,7 +55,7 @@ SameTotal =
 abbrev pub accepts : (ℕ → ℕ → ℕ) → List Figures → List ℕ → Bool
 accepts total tasks bounds =
     every_below (length tasks)
-    (λ k. nat_le 1 (slice_index bounds k) && (nat_le (slice_index bounds k) (get_or tasks k no_task).deadline && nat_le (total k 0) (slice_index bounds k)))
+    (λ k. nat_le 1 (slice_index bounds k) && (nat_le (slice_index bounds k) (slice_index_or tasks k no_task).deadline && nat_le (total k 0) (slice_index bounds k)))
 
 -- A test by these totals is misled: it accepts the bounds, and though nothing is wrong with the tasks and the order, the run
 -- breaks a promise.

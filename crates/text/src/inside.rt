@@ -54,9 +54,10 @@ fn step<R: OrderRule>(
 ) -> Result<bool, AllocError>
     requires end_room { room ends.old ≡ log_room }
     requires row_room { room stretches.old ≡ log_room }
-    ensures said { IfOk result (λ closes. Said (set_tasks session.old.run) (R.OrderRule.before (of_rule session.old.run)) item (books session.old ends.old stretches.old)
-        (books session.new ends.new stretches.new) (string_bytes text.old)
-        (string_bytes text.new) closes) }
+    ensures said { IfOk result (λ closes. Said (set_tasks session.old.run)
+        (R.OrderRule.before (of_rule session.old.run)) item
+        (books session.old ends.old stretches.old) (books session.new ends.new stretches.new)
+        (string_bytes text.old) (string_bytes text.new) closes) }
     ensures kept { Kept session.old.run session.new.run }
     ensures ends { SameMemory ends.old ends.new }
     ensures stretches { SameMemory stretches.old stretches.new }
@@ -104,7 +105,8 @@ pub(crate) fn play_run<R: OrderRule>(
     requires end_room { room ends.old ≡ log_room }
     requires row_room { room stretches.old ≡ log_room }
     ensures said { OnOk result (string_bytes text.new ≡ string_bytes text.old ++ printed (inside
-        (set_tasks session.entry.run) (R.OrderRule.before (of_rule session.entry.run)) (books session.entry ends.old stretches.old) (items reader.old.rest.now))) }
+        (set_tasks session.entry.run) (R.OrderRule.before (of_rule session.entry.run))
+        (books session.entry ends.old stretches.old) (items reader.old.rest.now))) }
 {
     while let Some(item) = reader.next() {
         if step(&mut session, item, ends, stretches, text)? {

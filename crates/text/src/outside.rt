@@ -31,7 +31,8 @@ fn play_checked<R: OrderRule>(
     text: &mut String,
 ) -> Result<(), AllocError>
     ensures said { OnOk result (string_bytes text.new ≡ string_bytes text.old ++ printed (inside
-        (tasks_of checked.entry.set.now) (R.OrderRule.before checked.entry.rule.now) opened (items reader.old.rest.now))) }
+        (tasks_of checked.entry.set.now) (R.OrderRule.before checked.entry.rule.now) opened
+        (items reader.old.rest.now))) }
 {
     let mut end_memory = [NO_END; RECORDS];
     let mut row_memory = [NO_STRETCH; RECORDS];
@@ -68,7 +69,8 @@ fn test<R: OrderRule>(
     text: &mut String,
 ) -> Result<bool, AllocError>
     ensures said { IfOk result (λ played. Tried (listed table.now) (R.OrderRule.points rule.now)
-        (R.OrderRule.before rule.now) (items reader.old.rest.now) (string_bytes text.old) (string_bytes text.new) played) }
+        (R.OrderRule.before rule.now) (items reader.old.rest.now)
+        (string_bytes text.old) (string_bytes text.new) played) }
     ensures rest { IfOk result (λ played. played ≡ false → reader.new ≡ reader.old) }
 {
     let mut set = Accepted::new();
@@ -87,9 +89,10 @@ fn test<R: OrderRule>(
 // Tests the table under the rule that was chosen, and plays the run if it passes. Answers whether it did.
 fn start(setup: &Setup, reader: &mut Reader<'_>, text: &mut String) -> Result<bool, AllocError>
     requires light { Light setup.now.choice }
-    ensures said { IfOk result (λ played. Tried (desk setup.now).tasks (chosen_point (desk setup.now).choice (desk setup.now).tasks) (chosen_before (desk setup.now).choice
-        (desk setup.now).tasks) (items reader.old.rest.now) (string_bytes text.old)
-        (string_bytes text.new) played) }
+    ensures said { IfOk result (λ played. Tried (desk setup.now).tasks
+        (chosen_point (desk setup.now).choice (desk setup.now).tasks)
+        (chosen_before (desk setup.now).choice (desk setup.now).tasks)
+        (items reader.old.rest.now) (string_bytes text.old) (string_bytes text.new) played) }
     ensures rest { IfOk result (λ played. played ≡ false → reader.new ≡ reader.old) }
 {
     let table = setup.table();
@@ -127,8 +130,9 @@ fn step(
 ) -> Result<bool, AllocError>
     requires light { Light setup.old.choice }
     requires fair { Fair item }
-    ensures said { IfOk result (λ played. Heard item (desk setup.old) (desk setup.new) (items reader.old.rest.now) (items reader.new.rest.now) (string_bytes text.old) (string_bytes
-        text.new) played) }
+    ensures said { IfOk result (λ played. Heard item (desk setup.old) (desk setup.new)
+        (items reader.old.rest.now) (items reader.new.rest.now)
+        (string_bytes text.old) (string_bytes text.new) played) }
     ensures light { Light setup.new.choice }
     ensures rest { IfOk result (λ played. played ≡ false → reader.new ≡ reader.old) }
 {
@@ -147,7 +151,8 @@ fn step(
 /// The text of a script: every line that its commands say, in their order, each ended by byte 0A. Want of memory is the
 /// only other answer.
 pub fn play(heap: Global, script: &[u8]) -> Result<String, AllocError>
-    ensures text { IfOk result (λ t. (verdict : Verdict) → Right verdict → string_bytes t ≡ script_text verdict script.now) }
+    ensures text { IfOk result (λ t. (verdict : Verdict) → Right verdict
+        → string_bytes t ≡ script_text verdict script.now) }
 {
     let mut text = String::new(heap);
     let mut reader = Reader::new(script);

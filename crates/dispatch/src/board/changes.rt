@@ -1,5 +1,5 @@
 //! Changing one record of the board.
-ghost use Rattle.std.specs.Prelude.{◌≡◌, ℕ, ◌<◌, ◌≤◌, true, List, length, get_or, if◌then◌else◌, Some, nat_eq, slice_index_or, slice_set};
+ghost use Rattle.std.specs.Prelude.{◌≡◌, ℕ, ◌<◌, ◌≤◌, true, List, length, if◌then◌else◌, Some, nat_eq, slice_index_or, slice_set};
 ghost use Rattle.model.specs.declared.figures.Figures.{Figures as Row};
 ghost use Rattle.dispatch.specs.Events.{moved};
 ghost use Rattle.dispatch.specs.Sound.{Sound, in_bounds, state_of};
@@ -90,13 +90,14 @@ impl Board {
         requires sound { Sound tasks.now self.old }
         requires within { task < length tasks.now }
         requires few { length tasks.now ≤ most_tasks }
-        requires kept { in_bounds (slice_index_or tasks.now task no_task) self.old.clock (Some (moved (get_or
-            tasks.now task no_task) event (job (state_of self.old) task))) ≡ true }
+        requires kept { in_bounds (slice_index_or tasks.now task no_task) self.old.clock
+            (Some (moved (slice_index_or tasks.now task no_task) event (job (state_of self.old) task))) ≡ true }
         ensures sound { Sound tasks.now self.new }
         ensures value { result
             ≡ moved (slice_index_or tasks.now task no_task) event (job (state_of self.old) task) }
         ensures state { state_of self.new
-            ≡ placed task (moved (slice_index_or tasks.now task no_task) event (job (state_of self.old) task)) (state_of self.old) }
+            ≡ placed task (moved (slice_index_or tasks.now task no_task) event (job (state_of self.old) task))
+            (state_of self.old) }
     {
         let job = after(&self.job(task), event, &tasks[task as usize]);
         self.put(task, job);

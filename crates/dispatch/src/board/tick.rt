@@ -22,7 +22,8 @@ impl Board {
         ensures answer { result
             ≡ spent (slice_index_or tasks.now task no_task) true (counted true (job (state_of self.old) task)) }
         ensures state { state_of self.new
-            ≡ placed task (ticked (slice_index_or tasks.now task no_task) true (job (state_of self.old) task)) (state_of self.old) }
+            ≡ placed task (ticked (slice_index_or tasks.now task no_task) true (job (state_of self.old) task))
+            (state_of self.old) }
     {
         let job = self.on(tasks, task, Event::Tick);
         !is_ready(job.phase)
@@ -38,7 +39,8 @@ impl Board {
         ensures answer { result
             ≡ overdue (slice_index_or tasks.now task no_task) (counted false (job (state_of self.old) task)) }
         ensures state { state_of self.new
-            ≡ placed task (ticked (slice_index_or tasks.now task no_task) false (job (state_of self.old) task)) (state_of self.old) }
+            ≡ placed task (ticked (slice_index_or tasks.now task no_task) false (job (state_of self.old) task))
+            (state_of self.old) }
     {
         let job = self.on(tasks, task, Event::Tick);
         is_ready(job.phase)
@@ -67,7 +69,8 @@ impl Board {
         requires waits { (i : ℕ) → has waiting i ≡ true → is_waiting (job (state_of self.old) i).phase ≡ true }
         ensures sound { Sound tasks.now self.new }
         ensures answer { (i : ℕ) → has result i
-            ≡ (has waiting i && overdue (slice_index_or tasks.now i no_task) (counted false (job (state_of self.old) i))) }
+            ≡ (has waiting i
+            && overdue (slice_index_or tasks.now i no_task) (counted false (job (state_of self.old) i))) }
         ensures state { state_of self.new
             ≡ delayed_state tasks.now (has waiting) (state_of self.old) }
     {

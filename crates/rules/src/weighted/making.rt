@@ -82,7 +82,8 @@ impl<'r, R: OrderRule> Weighted<'r, R> {
         weight: i32,
         below: &'r R,
     ) -> Result<Weighted<'r, R>, Refusal>
-        ensures answer { Layered (λ f. f.execution) (listed table.now) weight below.now (R.OrderRule.points below.now) result }
+        ensures answer { Layered (λ f. f.execution) (listed table.now) weight below.now
+            (R.OrderRule.points below.now) result }
     {
         Weighted::over(table, Figure::Execution, weight, below)
     }
@@ -94,7 +95,8 @@ impl<'r, R: OrderRule> Weighted<'r, R> {
         weight: i32,
         below: &'r R,
     ) -> Result<Weighted<'r, R>, Refusal>
-        ensures answer { Layered (λ f. f.suspension) (listed table.now) weight below.now (R.OrderRule.points below.now) result }
+        ensures answer { Layered (λ f. f.suspension) (listed table.now) weight below.now
+            (R.OrderRule.points below.now) result }
     {
         Weighted::over(table, Figure::Suspension, weight, below)
     }
