@@ -1,5 +1,5 @@
 -- What every call does to what stays true of a run.
-use Rattle.std.proofs.Common.{◌≡◌, ℕ, zero, suc, ◌+◌, ◌-◌, ◌<◌, ◌≤◌, Bool, true, false, cond, not, ◌&&◌, eqb, List, [], ◌∷◌, length, take, drop, ℤ, Some, None, Err, Option, unwrap_or, sym, refl, ap, ◌∙◌, subst, ⊎_elim, arith}
+use Rattle.std.proofs.Common.{◌≡◌, ℕ, zero, suc, ◌+◌, ◌-◌, ◌<◌, ◌≤◌, Bool, true, false, cond, not, ◌&&◌, eqb, List, [], ◌∷◌, length, take, drop, ℤ, Some, None, Ok, Err, Option, Result, unwrap_or, sym, refl, ap, ◌∙◌, subst, ⊎_elim, arith}
 use Rattle.std.proofs.lemmas.Bool.{cases_eq, cases_lt, both_ways, false≢true, not-false, and_from, and_left, eq-eqb, ne_eqb, eqb-false, leb-false}
 use Rattle.std.specs.Option.{option_map}
 use Rattle.std.specs.List.{AllByRecursion}
@@ -20,6 +20,7 @@ use Rattle.model.specs.declared.job.Job.{Job}
 use Rattle.model.specs.declared.job.JobId.{JobId}
 use Rattle.model.specs.declared.job.Phase.{Phase}
 use Rattle.model.specs.declared.job.Phase.TheVariants.{Closed, Ready, Waiting}
+use Rattle.model.specs.declared.refusal.Refusal.{Refusal}
 use Rattle.model.proofs.Admitted.{Admitted}
 use Rattle.model.proofs.Books.{Young}
 use Rattle.model.proofs.Bound.{in_time}
@@ -60,17 +61,17 @@ module _ {tasks : List Figures} {points : List ℤ} {bounds : List ℕ} {point :
   Here i o js = Sound tasks bounds point (now r) kept.history i o js
 
   -- What is left to show of a call, by its answer and the state after it.
-  abbrev After : Call → Answer × State → Type 0
+  abbrev After : Call → Result Answer Refusal × State → Type 0
   After c (answer, next) = Kept tasks bounds point next (read c answer r)
 
   -- A call that is refused changes nothing; one that is granted passed its checks.
   unless_refused : {A : Type 0} (c : Call) (wrap : A → Answer) (checks : Checks) (answer : A) (next : State)
-      → (AllByRecursion (λ check. check.0 ≡ false) checks → After c (wrap answer, next)) → After c (told wrap (call checks s answer next))
+      → (AllByRecursion (λ check. check.0 ≡ false) checks → After c (Ok (wrap answer), next)) → After c (told wrap (call checks s answer next))
   unless_refused c wrap [] answer s' granted = granted tt
   unless_refused c wrap (check ∷ rest) answer s' granted = go check.0 refl (unless_refused c wrap rest answer s')
     where
       go : (b : Bool) → check.0 ≡ b
-          → ((AllByRecursion (λ check. check.0 ≡ false) rest → After c (wrap answer, s')) → After c (told wrap (call rest s answer s')))
+          → ((AllByRecursion (λ check. check.0 ≡ false) rest → After c (Ok (wrap answer), s')) → After c (told wrap (call rest s answer s')))
           → After c (told wrap (cond b (Err check.1, s) (call rest s answer s')))
       go true e others = kept
       go false e others = others (λ all. granted (e, all))

@@ -7,7 +7,7 @@ use Rattle.model.specs.Processor.{processor}
 use Rattle.model.specs.State.{State, job, is_ready, is_waiting, is_open, put, in_phase}
 use Rattle.model.specs.Words.{word}
 use Rattle.model.specs.declared.call.Answer.{Answer}
-use Rattle.model.specs.declared.call.Answer.TheVariants.{Released, Waits, Woken, Finished, Passed, Refused}
+use Rattle.model.specs.declared.call.Answer.TheVariants.{Released, Waits, Woken, Finished, Passed}
 use Rattle.model.specs.declared.call.Call.{Call}
 use Rattle.model.specs.declared.call.Call.TheVariants.{Release, Wait, Wake, Finish, Tick}
 use Rattle.model.specs.declared.call.Ended.{Ended}
@@ -142,10 +142,10 @@ module _ (tasks : List Figures) (chosen : Option ℕ) (s : State) where
   abbrev pub advance : Result Ticked Refusal × State
   advance = call advancing s advanced next
 
--- A granted answer or a refusal, as the answer of a call.
-abbrev pub told : {A : Type 0} → (A → Answer) → Result A Refusal × State → Answer × State
-told wrap (Ok a, s) = (wrap a, s)
-told wrap (Err e, s) = (Refused e, s)
+-- What a call answers, granted or refused, with the granted answers of all calls in one type.
+abbrev pub told : {A : Type 0} → (A → Answer) → Result A Refusal × State → Result Answer Refusal × State
+told wrap (Ok a, s) = (Ok (wrap a), s)
+told wrap (Err e, s) = (Err e, s)
 
 -- The calls that ask who has the processor, and all calls together.
 module _ (tasks : List Figures) (before : JobId → JobId → Bool) where
@@ -161,8 +161,8 @@ module _ (tasks : List Figures) (before : JobId → JobId → Bool) where
   abbrev pub tick : State → Result Ticked Refusal × State
   tick s = advance tasks (processor tasks before s) s
 
-  -- The answer of a call and the state after it, with the answers of all calls in one type.
-  abbrev pub step : Call → State → Answer × State
+  -- The answer of a call and the state after it.
+  abbrev pub step : Call → State → Result Answer Refusal × State
   step (Release task) s = told Released (release tasks task s)
   step Wait s = told Waits (wait s)
   step (Wake task) s = told Woken (wake tasks task s)
@@ -170,7 +170,7 @@ module _ (tasks : List Figures) (before : JobId → JobId → Bool) where
   step Tick s = told Passed (tick s)
 
   -- The answers to a list of calls, made one after the other.
-  abbrev pub answers : State → List Call → List Answer
+  abbrev pub answers : State → List Call → List (Result Answer Refusal)
   answers s [] = []
   answers s (c ∷ cs) = (step c s).0 ∷ answers (step c s).1 cs
 

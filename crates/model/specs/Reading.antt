@@ -1,15 +1,16 @@
 -- What a transcript shows: the granted ticks and the jobs, read from the calls of one run and their answers alone.
-use Rattle.std.specs.Prelude.{ℕ, ◌+◌, Bool, true, false, cond, not, ◌&&◌, ◌||◌, List, [], ◌∷◌, length, Some, None, Option, ◌==◌}
+use Rattle.std.specs.Prelude.{ℕ, ◌+◌, Bool, true, false, cond, not, ◌&&◌, ◌||◌, List, [], ◌∷◌, length, Some, None, Ok, Err, Option, Result, ◌==◌}
 use Rattle.model.specs.declared.call.Answer.{Answer}
-use Rattle.model.specs.declared.call.Answer.TheVariants.{Released, Waits, Woken, Finished, Passed, Refused}
+use Rattle.model.specs.declared.call.Answer.TheVariants.{Released, Waits, Woken, Finished, Passed}
 use Rattle.model.specs.declared.call.Call.{Call}
 use Rattle.model.specs.declared.call.Call.TheVariants.{Release, Wait, Wake, Finish, Tick}
 use Rattle.model.specs.declared.call.Ended.{Ended}
 use Rattle.model.specs.declared.call.Ticked.{Ticked}
+use Rattle.model.specs.declared.refusal.Refusal.{Refusal}
 
 -- A transcript: the calls on one run, each with its answer, oldest first.
 abbrev pub Transcript : Type 0
-Transcript = List (Call × Answer)
+Transcript = List (Call × Result Answer Refusal)
 
 -- What became of a job: it is open, or a tick ended it, or a finish ended it and answered this of it. An end is known by
 -- the number of granted ticks up to it, a tick that ends the job included.
@@ -99,17 +100,17 @@ abbrev pub with_finish : Ended → Reading → Reading
 with_finish e r = for_earliest e.task (finished (now r) e) r
 
 -- The reading with one more call and its answer. A refused call counts as nothing; waits and wakes open and end no job.
-abbrev pub read : Call → Answer → Reading → Reading
-read (Release task) (Released clock) r = with_release task r
-read Wait (Released clock) r = r
-read (Wake task) (Released clock) r = r
-read Finish (Released clock) r = r
-read Tick (Released clock) r = r
-read call (Waits task) r = r
-read call (Woken waited) r = r
-read call (Finished e) r = with_finish e r
-read call (Passed t) r = with_tick t r
-read call (Refused why) r = r
+abbrev pub read : Call → Result Answer Refusal → Reading → Reading
+read (Release task) (Ok (Released clock)) r = with_release task r
+read Wait (Ok (Released clock)) r = r
+read (Wake task) (Ok (Released clock)) r = r
+read Finish (Ok (Released clock)) r = r
+read Tick (Ok (Released clock)) r = r
+read call (Ok (Waits task)) r = r
+read call (Ok (Woken waited)) r = r
+read call (Ok (Finished e)) r = with_finish e r
+read call (Ok (Passed t)) r = with_tick t r
+read call (Err why) r = r
 
 -- The reading after more of a transcript.
 abbrev pub read_on : Reading → Transcript → Reading

@@ -1,5 +1,5 @@
 -- Worked runs under the deadline rule, which the checker computes.
-use Rattle.std.specs.Prelude.{◌≡◌, ℕ, ◌-◌, ◌<◌, Bool, List, [], ◌∷◌, ◌++◌, map, length, ℤ, pos, Option, slice_index_or}
+use Rattle.std.specs.Prelude.{◌≡◌, ℕ, ◌-◌, ◌<◌, Bool, List, [], ◌∷◌, ◌++◌, map, length, ℤ, pos, Ok, Option, Result, slice_index_or}
 use Rattle.std.specs.List.{zip}
 use Rattle.model.specs.Figures.{Tasks}
 use Rattle.model.specs.Machine.{answers}
@@ -14,6 +14,7 @@ use Rattle.model.specs.declared.call.Call.{Call}
 use Rattle.model.specs.declared.call.Call.TheVariants.{Release, Wait, Wake, Finish, Tick}
 use Rattle.model.specs.declared.figures.Figures.{Figures}
 use Rattle.model.specs.declared.job.JobId.{JobId}
+use Rattle.model.specs.declared.refusal.Refusal.{Refusal}
 
 -- Tasks with bounds, and the calls that are made on a run of them.
 pub record Run : Type 0 where
@@ -34,7 +35,7 @@ abbrev pub by_deadline : List Figures → JobId → JobId → Bool
 by_deadline tasks = by_points (deadline_point tasks) lower_number
 
 -- What the calls of a run answer.
-abbrev pub replies : Run → List Answer
+abbrev pub replies : Run → List (Result Answer Refusal)
 replies run = answers run.tasks (by_deadline run.tasks) start run.calls
 
 -- What its transcript shows.
@@ -73,8 +74,8 @@ response [] = 0
 response (j ∷ js) = distance j.release j.fate
 
 -- What a granted tick answers: the task that ran, whether its job ended, and the word of the tasks that were forced.
-abbrev pub ticked : Option ℕ → Bool → ℕ → Answer
-ticked ran ended forced = Passed (record { ran = ran; ended = ended; forced = forced })
+abbrev pub ticked : Option ℕ → Bool → ℕ → Result Answer Refusal
+ticked ran ended forced = Ok (Passed (record { ran = ran; ended = ended; forced = forced }))
 
 -- Two light tasks.
 abbrev pub light : List Figures

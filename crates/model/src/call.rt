@@ -1,5 +1,4 @@
 //! The calls on a run, and what they answer.
-use crate::refusal::Refusal;
 
 /// A call on a run.
 #[derive(Clone, Copy, PartialEq, Eq, Debug)]
@@ -37,19 +36,17 @@ pub struct Ticked {
     pub forced: u32,
 }
 
-/// What a call answers.
+/// What a granted call answers.
 #[derive(Clone, Copy, PartialEq, Eq, Debug)]
 pub enum Answer {
-    /// A granted release: the clock.
+    /// A release: the clock.
     Released(u32),
-    /// A granted wait: the task whose job waits.
+    /// A wait: the task whose job waits.
     Waits(u32),
-    /// A granted wake: the ticks that the job has waited.
+    /// A wake: the ticks that the job has waited.
     Woken(u16),
-    /// A granted finish.
+    /// A finish: the job that it ends.
     Finished(Ended),
-    /// A granted tick.
+    /// A tick: what it was given to and whom it forced.
     Passed(Ticked),
-    /// The call was refused, and changed nothing.
-    Refused(Refusal),
 }

@@ -3,7 +3,7 @@ ghost use Rattle.std.specs.Prelude.{◌≡◌};
 ghost use Rattle.model.specs.Bytes.{figures_at};
 
 /// What a task is admitted with, in whole ticks.
-#[derive(Clone, Copy, PartialEq, Eq, Debug)]
+#[derive(Clone, Copy, PartialEq, Eq, Debug, Default)]
 pub struct Figures {
     /// C: the most ticks that one job is given.
     pub execution: u16,
@@ -15,11 +15,11 @@ pub struct Figures {
     pub period: u16,
 }
 
-impl Figures {
-    /// The figures in 8 bytes: C, S, D, T, 2 bytes each, low byte first.
-    pub fn from_bytes(bytes: [u8; 8]) -> Figures
-        ensures value { result ≡ figures_at bytes 0 }
-    {
+/// The figures in 8 bytes: C, S, D, T, 2 bytes each, low byte first.
+impl From<[u8; 8]> for Figures {
+    ghost from_gives = { λ bytes figures. figures ≡ figures_at bytes 0 };
+
+    fn from(bytes: [u8; 8]) -> Figures {
         Figures {
             execution: u16::from_le_bytes([bytes[0], bytes[1]]),
             suspension: u16::from_le_bytes([bytes[2], bytes[3]]),

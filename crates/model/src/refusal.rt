@@ -2,6 +2,7 @@
 ghost use Rattle.std.specs.Prelude.{◌≡◌, Some};
 ghost use Rattle.model.specs.Refusals.{number, reason, text};
 
+use std::error::Error;
 use std::fmt;
 
 /// Everything that the library refuses, with the number that scripts and C hosts see.
@@ -69,3 +70,5 @@ impl fmt::Display for Refusal {
         write!(f, "refused {number}: {reason}")
     }
 }
+
+impl Error for Refusal {}

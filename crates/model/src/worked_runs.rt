@@ -1,5 +1,5 @@
 //! Worked runs: what they show, a bound that is reached, and what weaker tests would let happen.
-ghost use Rattle.std.specs.Prelude.{◌≡◌, true, false, [], ◌∷◌, map, Some, None};
+ghost use Rattle.std.specs.Prelude.{◌≡◌, true, false, [], ◌∷◌, map, Some, None, Ok};
 ghost use Rattle.model.specs.Test.{count};
 ghost use Rattle.model.specs.WeakerTests.{Misled, SameTotal};
 ghost use Rattle.model.specs.WeakerTests.{count_rounded_down, count_without_bound};
@@ -16,7 +16,7 @@ mod proved;
 /// tick and refusals. Of the third the law speaks: a job released at clock 3 ends at clock 7, its bound of 4 later.
 pub fn three_runs()
     ensures answers { replies forced_wake
-        ≡ Released 0 ∷ Waits 0 ∷ Released 0
+        ≡ Ok (Released 0) ∷ Ok (Waits 0) ∷ Ok (Released 0)
         ∷ ticked (Some 1) true 0 ∷ ticked None false 1 ∷ ticked (Some 0) true 0 ∷ [] }
     ensures shows { map seen (forced_wake ∷ all_kinds ∷ longest_response ∷ [])
         ≡ (true, Some 0 ∷ None ∷ Some 1 ∷ [], counted_out 0 1 3 ∷ [], counted_out 0 1 1 ∷ [])

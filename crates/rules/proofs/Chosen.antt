@@ -5,7 +5,8 @@ use Rattle.std.proofs.lemmas.Bool.Decides.{nat_tests}
 use Rattle.model.specs.Rules.{allowed, by_points, lower_number, weighted_point}
 use Rattle.model.specs.declared.figures.Figures.{Figures}
 use Rattle.model.specs.declared.job.JobId.{JobId}
-use Rattle.rules.specs.Choices.{bottom_point, chosen_before, chosen_point, middle_point}
+use Rattle.rules.specs.Choices.{chosen_before, chosen_point, middle_point}
+use Rattle.rules.specs.Kinds.{bottom_point}
 use Rattle.rules.specs.Points.{point_of}
 use Rattle.rules.specs.declared.bottom.Bottom.{Bottom}
 use Rattle.rules.specs.declared.choice.Choice.{Choice}

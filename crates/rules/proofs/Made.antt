@@ -4,7 +4,6 @@ use Rattle.model.specs.Figures.{most_tasks, no_task}
 use Rattle.model.specs.Rules.{capped, deadline}
 use Rattle.model.specs.Sums.{sum_to}
 use Rattle.model.specs.declared.figures.Figures.{Figures}
-use Rattle.tasks.proofs.Invariant.{invariant}
 use Rattle.tasks.specs.Listed.{listed}
 use Rattle.tasks.specs.declared.table.Table.{Table}
 
@@ -14,7 +13,7 @@ deadlines tasks k = pos (deadline tasks k)
 
 -- A task of a table has a number below the most.
 pub few : (t : Table) (tasks : List Figures) (i : ℕ) → tasks ≡ listed t → i < length tasks → i < most_tasks
-few t tasks i e h = omega (arith, ap length e, (invariant t).0)
+few t tasks i e h = omega (arith, ap length e, t.fit.0)
 
 -- D of every task and of all lower-numbered ones.
 abbrev pub levels : List Figures → ℕ → ℤ

@@ -1,26 +1,26 @@
 -- A rule by three bytes: a kind and two weights.
-use Rattle.std.specs.Prelude.{◌≡◌, ℕ, Bool, true, cond, not, ◌||◌, List, [], ◌∷◌, ℤ, pos, ◌-ℤ◌, Result, ◌==◌, nat_lt}
+use Rattle.std.specs.Prelude.{◌≡◌, ℕ, Bool, true, cond, not, ◌||◌, List, [], ◌∷◌, ℤ, pos, ◌-ℤ◌, Result, IfOk, nat_lt, slice_index}
 use Rattle.model.specs.Checks.{question}
-use Rattle.model.specs.Rules.{allowed, arrival_point, by_points, deadline_point, level_point, lower_number, weighted_point}
+use Rattle.model.specs.Rules.{allowed, by_points, lower_number, weighted_point}
 use Rattle.model.specs.declared.figures.Figures.{Figures}
 use Rattle.model.specs.declared.job.JobId.{JobId}
 use Rattle.model.specs.declared.refusal.Refusal.{Refusal}
 use Rattle.model.specs.declared.refusal.Refusal.TheVariants.{RuleOutOfRange}
+use Rattle.rules.specs.Kinds.{bottom_point, kind_of, no_kind}
+use Rattle.rules.specs.declared.bottom.Kind.TheVariants.{Deadline}
 use Rattle.rules.specs.declared.choice.Choice.{Choice}
-use Rattle.rules.specs.declared.choice.Kind.{Kind}
-use Rattle.rules.specs.declared.choice.Kind.TheVariants.{Deadline, Arrival, Level}
 
 -- A byte in two's complement.
 abbrev pub signed : ℕ → ℤ
 signed byte = cond (nat_lt byte 128) (pos byte) (pos byte -ℤ pos 256)
 
--- The kind of a byte: 0 deadline, 1 arrival, 2 level.
-abbrev pub kind_of : ℕ → Kind
-kind_of byte = cond (byte == 0) Deadline (cond (byte == 1) Arrival Level)
+-- The weight of a byte, refused if it is outside its range.
+abbrev pub weight_from : ℕ → Result ℤ Refusal
+weight_from byte = question ((not (allowed (signed byte)), RuleOutOfRange) ∷ []) (signed byte)
 
 -- The kind is above 2, or a weight is outside its range.
 abbrev pub out_of_range : ℕ → ℕ → ℕ → Bool
-out_of_range kind execution suspension = nat_lt 2 kind || (not (allowed (signed execution)) || not (allowed (signed suspension)))
+out_of_range kind execution suspension = no_kind kind || (not (allowed (signed execution)) || not (allowed (signed suspension)))
 
 -- The weights of a choice are in their range.
 abbrev pub Light : Choice → Type 0
@@ -36,15 +36,13 @@ abbrev pub choose : ℕ → ℕ → ℕ → Result Choice Refusal
 choose kind execution suspension =
     question ((out_of_range kind execution suspension, RuleOutOfRange) ∷ []) (choice_of kind execution suspension)
 
+-- What three bytes give: the choice that they make, or the refusal; and the weights of a choice are in their range.
+abbrev pub Chosen : List ℕ → Result Choice Refusal → Type 0
+Chosen bytes r = (r ≡ choose (slice_index bytes 0) (slice_index bytes 1) (slice_index bytes 2)) × IfOk r Light
+
 -- Deadline with weights 0.
 abbrev pub plain : Choice
 plain = record { kind = Deadline; execution = pos 0; suspension = pos 0 }
-
--- The points of a kind.
-abbrev pub bottom_point : Kind → List Figures → ℕ → ℤ
-bottom_point Deadline tasks = deadline_point tasks
-bottom_point Arrival tasks = arrival_point
-bottom_point Level tasks = level_point tasks
 
 module _ (choice : Choice) (tasks : List Figures) where
   -- The points of the C-weight over the kind.

@@ -1,8 +1,8 @@
 -- The figure that a layer weighs.
 use Rattle.std.specs.Prelude.{ℕ}
 use Rattle.model.specs.declared.figures.Figures.{Figures}
-use Rattle.rules.specs.declared.weighted.making.Figure.{Figure}
-use Rattle.rules.specs.declared.weighted.making.Figure.TheVariants.{Execution, Suspension}
+use Rattle.rules.specs.declared.weighted.Figure.{Figure}
+use Rattle.rules.specs.declared.weighted.Figure.TheVariants.{Execution, Suspension}
 
 -- C or S.
 abbrev pub figure_of : Figure → Figures → ℕ

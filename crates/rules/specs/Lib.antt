@@ -1,4 +1,5 @@
 pub mod Choices
 pub mod Figure
+pub mod Kinds
 pub mod Layers
 pub mod Points

@@ -1,17 +1,10 @@
 //! A rule by three bytes: a kind and two weights.
-ghost use Rattle.std.specs.Prelude.{◌≡◌, IfOk, slice_index};
-ghost use Rattle.rules.specs.Choices.{Light, choose, plain, signed};
+ghost use Rattle.std.specs.Prelude.{◌≡◌};
+ghost use Rattle.rules.specs.Choices.{Chosen, plain, weight_from};
 
-use crate::weighted::HEAVIEST;
+use crate::bottom::Kind;
+use crate::weighted::check_weight;
 use model::Refusal;
-
-/// The rules that layers can stand on.
-#[derive(Clone, Copy, PartialEq, Eq, Debug)]
-pub enum Kind {
-    Deadline,
-    Arrival,
-    Level,
-}
 
 /// Which rule is meant: the S-weight over the C-weight over a kind.
 #[derive(Clone, Copy, PartialEq, Eq, Debug)]
@@ -23,49 +16,42 @@ pub struct Choice {
     pub suspension: i32,
 }
 
-// A weight from its byte in two's complement.
-fn weight(byte: u8) -> i32
-    ensures value { result ≡ signed byte }
-{
-    i32::from(byte.cast_signed())
-}
+/// Deadline with weights 0: what is meant where nothing is chosen.
+// Not a derive: what is meant is a promise, and a derive would promise whatever variant it marks.
+impl Default for Choice {
+    ghost is_default = { λ choice. choice ≡ plain };
 
-impl Choice {
-    /// Deadline with weights 0: what is meant where nothing is chosen.
-    pub const fn plain() -> Choice
-        ensures value { result ≡ plain }
-    {
+    fn default() -> Choice {
         Choice {
             kind: Kind::Deadline,
             execution: 0,
             suspension: 0,
         }
     }
+}
 
-    /// The choice that three bytes make: the kind (0 deadline, 1 arrival, 2 level), the C-weight and the S-weight in
-    /// two's complement. Refused if the kind is above 2 or a weight is outside −16 … 16.
-    pub fn from_bytes(bytes: [u8; 3]) -> Result<Choice, Refusal>
-        ensures answer { result ≡ choose (slice_index bytes 0) (slice_index bytes 1) (slice_index bytes 2) }
-        ensures light { IfOk result Light }
-    {
-        let kind = match bytes[0] {
-            0 => Kind::Deadline,
-            1 => Kind::Arrival,
-            2 => Kind::Level,
-            _ => return Err(Refusal::RuleOutOfRange),
-        };
-        let execution = weight(bytes[1]);
-        let suspension = weight(bytes[2]);
-        if execution < -HEAVIEST || execution > HEAVIEST {
-            return Err(Refusal::RuleOutOfRange);
-        }
-        if suspension < -HEAVIEST || suspension > HEAVIEST {
-            return Err(Refusal::RuleOutOfRange);
-        }
+// A weight from its byte in two's complement. Refused outside −16 … 16.
+fn weight(byte: u8) -> Result<i32, Refusal>
+    ensures answer { result ≡ weight_from byte }
+{
+    let weight = i32::from(byte.cast_signed());
+    check_weight(weight)?;
+    Ok(weight)
+}
+
+/// The choice that three bytes make: the kind (0 deadline, 1 arrival, 2 level), the C-weight and the S-weight in
+/// two's complement. Refused if the kind is above 2 or a weight is outside −16 … 16.
+impl TryFrom<[u8; 3]> for Choice {
+    type Error = Refusal;
+
+    ghost try_from_gives = { Chosen };
+
+    fn try_from(bytes: [u8; 3]) -> Result<Choice, Refusal> {
+        let [kind, execution, suspension] = bytes;
         Ok(Choice {
-            kind,
-            execution,
-            suspension,
+            kind: Kind::try_from(kind)?,
+            execution: weight(execution)?,
+            suspension: weight(suspension)?,
         })
     }
 }

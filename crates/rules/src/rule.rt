@@ -1,6 +1,6 @@
 //! What an order rule is.
 ghost use Rattle.std.specs.Prelude.{◌≡◌, ℕ, Bool, ℤ};
-ghost use Rattle.model.specs.Orders.{Lawful};
+ghost use Rattle.model.specs.Orders.{Lawful, priority};
 ghost use Rattle.model.specs.declared.job.JobId.{JobId as Job};
 
 use model::JobId;
@@ -28,4 +28,11 @@ pub trait OrderRule {
     /// Whether job `a` goes before job `b`. No job is refused.
     fn goes_before(&self, a: JobId, b: JobId) -> bool
         ensures value { result ≡ before self.now a b };
+
+    /// The priority point of a job.
+    fn priority(&self, job: JobId) -> i64
+        ensures value { result ≡ priority (points self.now) job }
+    {
+        i64::from(job.release) + i64::from(self.point(job.task))
+    }
 }

@@ -1,16 +1,29 @@
 //! Layers: a weight on a figure, over any rule.
+ghost use Rattle.std.specs.Prelude.{◌≡◌, true, not, pos, [], ◌∷◌, ◌+ℤ◌, ◌*ℤ◌, neg_ℤ, ◌≤ℤ◌};
 ghost use Rattle.model.proofs.Orders.{layer_lawful};
-ghost use Rattle.model.specs.Rules.{by_points};
+ghost use Rattle.model.specs.Checks.{question};
+ghost use Rattle.model.specs.Orders.{InRange};
+ghost use Rattle.model.specs.Rules.{allowed, by_points, capped, weighted_point};
+ghost use Rattle.model.specs.declared.refusal.Refusal.TheVariants.{RuleOutOfRange};
 ghost use Rattle.rules.specs.Points.{in_range, point_of};
+ghost use Rattle.tasks.specs.Listed.{listed};
 
-use crate::points::Points;
+use crate::points::{LARGEST, Points, SMALLEST};
 use crate::rule::OrderRule;
-use model::JobId;
-
-mod making;
+use model::{Figures, JobId, Refusal};
+use tasks::Table;
 
 /// The heaviest weight; the lightest is its negative.
 pub const HEAVIEST: i32 = 16;
+
+/// The figure that a layer weighs.
+#[derive(Clone, Copy, PartialEq, Eq, Debug)]
+pub enum Figure {
+    /// C.
+    Execution,
+    /// S.
+    Suspension,
+}
 
 /// A layer over a rule, which it borrows: to the point below it adds its weight times C, or times S, of the task; a
 /// sum beyond an end of the range of points stops there. On equal priority points the rule below decides.
@@ -18,6 +31,93 @@ pub const HEAVIEST: i32 = 16;
 pub struct Weighted<'r, R> {
     points: Points,
     below: &'r R,
+}
+
+impl Figure {
+    ghost use Rattle.rules.specs.Figure.{figure_of};
+
+    fn of(self, figures: &Figures) -> u16
+        ensures value { result ≡ figure_of self figures.now }
+    {
+        match self {
+            Figure::Execution => figures.execution,
+            Figure::Suspension => figures.suspension,
+        }
+    }
+}
+
+/// Refuses a weight outside −16 … 16.
+pub(crate) fn check_weight(weight: i32) -> Result<(), Refusal>
+    ensures answer { result ≡ question ((not (allowed weight), RuleOutOfRange) ∷ []) tt }
+{
+    if weight < -HEAVIEST || weight > HEAVIEST {
+        return Err(Refusal::RuleOutOfRange);
+    }
+    Ok(())
+}
+
+// A weight times a figure.
+fn product(weight: i32, figure: u16) -> i32
+    requires light { allowed weight ≡ true }
+    ensures value { result ≡ weight *ℤ pos figure }
+    ensures low { neg_ℤ (pos 1048560) ≤ℤ result }
+    ensures high { result ≤ℤ pos 1048560 }
+{
+    weight * i32::from(figure)
+}
+
+// A point and what a layer adds to it.
+fn sum(below: i32, added: i32) -> i32
+    requires range { InRange below }
+    requires low { neg_ℤ (pos 1048560) ≤ℤ added }
+    requires high { added ≤ℤ pos 1048560 }
+    ensures value { result ≡ below +ℤ added }
+{
+    below.saturating_add(added)
+}
+
+// A sum, stopped at the ends of the range of points.
+fn stopped(sum: i32) -> i32
+    ensures value { result ≡ capped sum }
+    ensures range { InRange result }
+{
+    sum.min(LARGEST).max(SMALLEST)
+}
+
+impl<'r, R: OrderRule> Weighted<'r, R> {
+    ghost use Rattle.rules.specs.Figure.{figure_of};
+    ghost use Rattle.rules.specs.Layers.{Layered};
+
+    /// The layer that adds `weight` times a figure for the tasks that the table has now. Refused if the weight is
+    /// outside −16 … 16.
+    pub fn over(
+        table: &Table,
+        figure: Figure,
+        weight: i32,
+        below: &'r R,
+    ) -> Result<Weighted<'r, R>, Refusal>
+        ensures answer { Layered (figure_of figure) (listed table.now) weight below.now
+            (R.OrderRule.points below.now) result }
+    {
+        check_weight(weight)?;
+        let points = Weighted::points(table, figure, weight, below);
+        Ok(Weighted { points, below })
+    }
+
+    // The points of a layer.
+    fn points(table: &Table, figure: Figure, weight: i32, below: &R) -> Points
+        requires light { allowed weight ≡ true }
+        ensures value { point_of result
+            ≡ weighted_point (figure_of figure) (listed table.now) weight (R.OrderRule.points below.now) }
+    {
+        let mut points = Points::zero();
+        let tasks = table.as_slice();
+        for (i, figures) in tasks.iter().enumerate() {
+            let added = product(weight, figure.of(figures));
+            points.put(i, stopped(sum(below.point(i as u32), added)));
+        }
+        points
+    }
 }
 
 impl<'r, R: OrderRule> OrderRule for Weighted<'r, R> {
@@ -33,8 +133,8 @@ impl<'r, R: OrderRule> OrderRule for Weighted<'r, R> {
     }
 
     fn goes_before(&self, a: JobId, b: JobId) -> bool {
-        let p = self.points.priority(a);
-        let q = self.points.priority(b);
+        let p = self.priority(a);
+        let q = self.priority(b);
         if p == q {
             self.below.goes_before(a, b)
         } else {

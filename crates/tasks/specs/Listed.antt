@@ -1,8 +1,8 @@
 -- What a table holds.
-use Rattle.std.specs.Prelude.{List, take}
+use Rattle.std.specs.Prelude.{List}
 use Rattle.model.specs.declared.figures.Figures.{Figures}
 use Rattle.tasks.specs.declared.table.Table.{Table}
 
 -- The tasks of a table, in the order of adding.
 abbrev pub listed : Table → List Figures
-listed t = take t.count t.tasks
+listed t = t.tasks.items

@@ -1,7 +1,7 @@
 use Rattle.std.proofs.Common.{◌≡◌, ◌+ℤ◌, ◌∙◌, arith, w32, to_z, of_z}
 use Rattle.std.proofs.lemmas.Int.{ints}
 use Rattle.rules.proofs.Products.{uncut}
-use Rattle.rules.proofs.weighted.making.sum.Goals as goal
+use Rattle.rules.proofs.weighted.sum.Goals as goal
 
 pub returns : goal.returns
 returns c =

@@ -3,7 +3,7 @@ use Rattle.std.proofs.lemmas.Int.{ints}
 use Rattle.tasks.specs.Listed.{listed}
 use Rattle.rules.proofs.Filled.{filled_none, filled_more, filled_all}
 use Rattle.rules.proofs.Made.{levels, few}
-use Rattle.rules.proofs.level.Level.new.Goals as goal
+use Rattle.rules.proofs.bottom.Bottom.level.Goals as goal
 
 pub loop-i-init : goal.loop-i-init
 loop-i-init c =

@@ -3,7 +3,7 @@ use Rattle.std.proofs.lemmas.Int.{ints}
 use Rattle.tasks.specs.Listed.{listed}
 use Rattle.rules.proofs.Filled.{filled_none, filled_more, filled_all}
 use Rattle.rules.proofs.Made.{deadlines, few}
-use Rattle.rules.proofs.deadline.Deadline.new.Goals as goal
+use Rattle.rules.proofs.bottom.Bottom.deadline.Goals as goal
 
 pub loop-i-init : goal.loop-i-init
 loop-i-init c = filled_none c.zero-points.result (deadlines c.as_slice-tasks.result.now) c.zero-points.ensures.value

@@ -1,8 +1,8 @@
 use Rattle.std.proofs.Common.{◌≡◌, pos, ◌*ℤ◌, arith, w32, to_z, of_z}
 use Rattle.std.proofs.lemmas.Int.{ints}
 use Rattle.rules.proofs.Products.{product_bounds}
-use Rattle.rules.proofs.weighted.making.product.Goals as goal
-use Rattle.rules.proofs.weighted.making.product.Goals.{After-from}
+use Rattle.rules.proofs.weighted.product.Goals as goal
+use Rattle.rules.proofs.weighted.product.Goals.{After-from}
 
 -- The product that the code computes is the product of the numbers.
 exact : (c : After-from) → to_z w32 (of_z w32 c.args.weight) *ℤ to_z w32 (of_z w32 c.from.result) ≡ c.args.weight *ℤ pos

@@ -7,7 +7,7 @@ use Rattle.rules.proofs.Filled.{filled_none, filled_more, filled_all}
 use Rattle.rules.proofs.Made.{weights, few}
 use Rattle.rules.specs.Figure.{figure_of}
 use Rattle.rules.specs.Points.{point_of}
-use Rattle.rules.proofs.weighted.making.layer_points.Goals as goal
+use Rattle.rules.proofs.weighted.Weighted.points.Goals as goal
 
 pub loop-i-init : goal.loop-i-init
 loop-i-init g c =

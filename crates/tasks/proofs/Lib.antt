@@ -1,2 +1,0 @@
-mod Front
-pub mod Invariant
