@@ -1,7 +1,6 @@
 //! Points of one's own, and ties to the higher number.
 ghost use Rattle.std.specs.Prelude.{◌≡◌};
 ghost use Rattle.own_rule.specs.Higher.{higher_before, higher_laws, higher_point};
-ghost use Rattle.model.specs.Orders.{priority};
 
 use model::JobId;
 use rules::{LARGEST, OrderRule, SMALLEST};
@@ -21,12 +20,6 @@ impl<'p> HigherFirst<'p> {
     {
         HigherFirst { points }
     }
-
-    fn priority(&self, job: JobId) -> i64
-        ensures value { result ≡ priority (higher_point self.now.points.now) job }
-    {
-        i64::from(job.release) + i64::from(self.point(job.task))
-    }
 }
 
 impl<'p> OrderRule for HigherFirst<'p> {
@@ -37,10 +30,8 @@ impl<'p> OrderRule for HigherFirst<'p> {
     ghost laws = { λ s. higher_laws s.points.now };
 
     fn point(&self, task: u32) -> i32 {
-        match self.points.get(task as usize) {
-            Some(point) => (*point).min(LARGEST).max(SMALLEST),
-            None => 0,
-        }
+        let listed = self.points.get(task as usize).copied();
+        listed.unwrap_or(0).min(LARGEST).max(SMALLEST)
     }
 
     fn goes_before(&self, a: JobId, b: JobId) -> bool {
