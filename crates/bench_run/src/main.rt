@@ -5,7 +5,7 @@
 use admission::{Accepted, admit};
 use dispatch::{Checked, Run};
 use model::{Answer, Call, Figures};
-use rules::{Deadline, OrderRule};
+use rules::{Bottom, OrderRule};
 use std::time::Instant;
 use tasks::{CAPACITY, Table};
 
@@ -70,7 +70,7 @@ fn main(rt: HostRuntime) -> anyhow::Result<()> {
     rt.read_line(&mut word)?;
     let ticks = word.as_str().trim().parse::<u32>()?;
     let table = line();
-    let rule = Deadline::new(&table);
+    let rule = Bottom::deadline(&table);
     let mut set = Accepted::new();
     if let Err(refusal) = admit(&table, &rule, &mut set) {
         println!(rt; "{refusal}")?;

@@ -1,7 +1,7 @@
 //! Points and order under all rules and layers.
 use model::{Figures, JobId, Refusal};
 use own_rule::HigherFirst;
-use rules::{Arrival, Deadline, Level, OrderRule, Weighted};
+use rules::{Bottom, Figure, OrderRule, Weighted};
 use std::process::Abort;
 use std::test::Fail;
 use tasks::Table;
@@ -34,22 +34,22 @@ fn check_points<R: OrderRule>(rt: &impl Abort, rule: &R, first: i32, second: i32
 #[test]
 fn the_points_of_two_tasks(rt: HostRuntime) -> Result<(), Fail> {
     let table = pair()?;
-    check_points(&rt, &Deadline::new(&table), 5, 7);
-    check_points(&rt, &Arrival::new(), 0, 0);
-    check_points(&rt, &Level::new(&table), 5, 12);
+    check_points(&rt, &Bottom::deadline(&table), 5, 7);
+    check_points(&rt, &Bottom::arrival(), 0, 0);
+    check_points(&rt, &Bottom::level(&table), 5, 12);
     Ok(())
 }
 
 #[test]
 fn layers_stack_in_both_orders(rt: HostRuntime) -> Result<(), Fail> {
     let table = pair()?;
-    let deadline = Deadline::new(&table);
-    let c = Weighted::by_execution(&table, 3, &deadline)?;
-    let s = Weighted::by_suspension(&table, -1, &deadline)?;
+    let deadline = Bottom::deadline(&table);
+    let c = Weighted::over(&table, Figure::Execution, 3, &deadline)?;
+    let s = Weighted::over(&table, Figure::Suspension, -1, &deadline)?;
     check_points(&rt, &c, 8, 10);
     check_points(&rt, &s, 3, 4);
-    check_points(&rt, &Weighted::by_suspension(&table, -1, &c)?, 6, 7);
-    check_points(&rt, &Weighted::by_execution(&table, 3, &s)?, 6, 7);
+    check_points(&rt, &Weighted::over(&table, Figure::Suspension, -1, &c)?, 6, 7);
+    check_points(&rt, &Weighted::over(&table, Figure::Execution, 3, &s)?, 6, 7);
     Ok(())
 }
 
@@ -59,13 +59,13 @@ fn a_point_stops_at_the_ends_of_the_range(rt: HostRuntime) -> Result<(), Fail> {
     let high = HigherFirst::new(&[999_999_990, -999_999_999]);
     check_points(
         &rt,
-        &Weighted::by_execution(&table, 16, &high)?,
+        &Weighted::over(&table, Figure::Execution, 16, &high)?,
         1_000_000_000,
         -999_999_983,
     );
     check_points(
         &rt,
-        &Weighted::by_suspension(&table, -16, &high)?,
+        &Weighted::over(&table, Figure::Suspension, -16, &high)?,
         999_999_958,
         -1_000_000_000,
     );
@@ -75,12 +75,12 @@ fn a_point_stops_at_the_ends_of_the_range(rt: HostRuntime) -> Result<(), Fail> {
 #[test]
 fn weights_are_from_minus_16_to_16(rt: HostRuntime) -> Result<(), Fail> {
     let table = pair()?;
-    let deadline = Deadline::new(&table);
-    assert!(rt; Weighted::by_execution(&table, 16, &deadline).is_ok());
-    assert!(rt; Weighted::by_suspension(&table, -16, &deadline).is_ok());
+    let deadline = Bottom::deadline(&table);
+    assert!(rt; Weighted::over(&table, Figure::Execution, 16, &deadline).is_ok());
+    assert!(rt; Weighted::over(&table, Figure::Suspension, -16, &deadline).is_ok());
     for weight in [17, -17, i32::MAX, i32::MIN] {
-        assert!(rt; Weighted::by_execution(&table, weight, &deadline).is_err());
-        assert!(rt; Weighted::by_suspension(&table, weight, &deadline).is_err());
+        assert!(rt; Weighted::over(&table, Figure::Execution, weight, &deadline).is_err());
+        assert!(rt; Weighted::over(&table, Figure::Suspension, weight, &deadline).is_err());
     }
     Ok(())
 }
@@ -100,7 +100,7 @@ fn ties_go_to_the_lower_number_and_in_the_sample_to_the_higher(
     rt: HostRuntime,
 ) -> Result<(), Fail> {
     let table = pair()?;
-    let deadline = Deadline::new(&table);
+    let deadline = Bottom::deadline(&table);
     check_before(&rt, &deadline, job(0, 2), job(1, 0));
     check_before(&rt, &deadline, job(1, 0), job(0, 3));
     check_before(&rt, &deadline, job(0, 2), job(9, 7));
@@ -111,13 +111,13 @@ fn ties_go_to_the_lower_number_and_in_the_sample_to_the_higher(
     check_before(&rt, &sample, job(9, 7), job(0, 2));
     check_before(
         &rt,
-        &Weighted::by_execution(&table, 1, &deadline)?,
+        &Weighted::over(&table, Figure::Execution, 1, &deadline)?,
         job(0, 2),
         job(1, 0),
     );
     check_before(
         &rt,
-        &Weighted::by_execution(&table, 1, &sample)?,
+        &Weighted::over(&table, Figure::Execution, 1, &sample)?,
         job(1, 0),
         job(0, 2),
     );

@@ -3,7 +3,7 @@ use admission::{Accepted, admit};
 use dispatch::Checked;
 use model::{Ended, Figures, Refusal, Ticked};
 use own_rule::HigherFirst;
-use rules::{Arrival, Deadline, OrderRule};
+use rules::{Bottom, OrderRule};
 use std::test::Fail;
 use tasks::Table;
 
@@ -31,8 +31,8 @@ fn ticked(ran: Option<u32>, ended: bool, forced: u32) -> Result<Ticked, Refusal>
 #[test]
 fn a_rule_with_other_points_is_refused_and_leaves_both(rt: HostRuntime) -> Result<(), Fail> {
     let table = pair()?;
-    let deadline = Deadline::new(&table);
-    let arrival = Arrival::new();
+    let deadline = Bottom::deadline(&table);
+    let arrival = Bottom::arrival();
     let mut set = Accepted::new();
     admit(&table, &deadline, &mut set)?;
     assert!(rt; Checked::check(&set, &arrival).is_err());
@@ -43,7 +43,7 @@ fn a_rule_with_other_points_is_refused_and_leaves_both(rt: HostRuntime) -> Resul
 #[test]
 fn a_new_run_refuses_what_needs_a_job(rt: HostRuntime) -> Result<(), Fail> {
     let table = pair()?;
-    let deadline = Deadline::new(&table);
+    let deadline = Bottom::deadline(&table);
     let mut set = Accepted::new();
     admit(&table, &deadline, &mut set)?;
     let mut run = Checked::check(&set, &deadline)?.start();
@@ -64,7 +64,7 @@ fn a_new_run_refuses_what_needs_a_job(rt: HostRuntime) -> Result<(), Fail> {
 #[test]
 fn releases_are_a_period_apart(rt: HostRuntime) -> Result<(), Fail> {
     let table = pair()?;
-    let deadline = Deadline::new(&table);
+    let deadline = Bottom::deadline(&table);
     let mut set = Accepted::new();
     admit(&table, &deadline, &mut set)?;
     let mut run = Checked::check(&set, &deadline)?.start();
@@ -81,7 +81,7 @@ fn releases_are_a_period_apart(rt: HostRuntime) -> Result<(), Fail> {
 #[test]
 fn waiting_is_counted_and_ends_by_force(rt: HostRuntime) -> Result<(), Fail> {
     let table = pair()?;
-    let deadline = Deadline::new(&table);
+    let deadline = Bottom::deadline(&table);
     let mut set = Accepted::new();
     admit(&table, &deadline, &mut set)?;
     let mut run = Checked::check(&set, &deadline)?.start();
@@ -101,7 +101,7 @@ fn waiting_is_counted_and_ends_by_force(rt: HostRuntime) -> Result<(), Fail> {
 fn a_wait_without_suspension_is_refused(rt: HostRuntime) -> Result<(), Fail> {
     let mut table = Table::new();
     table.add(figures(2, 0, 5, 5))?;
-    let deadline = Deadline::new(&table);
+    let deadline = Bottom::deadline(&table);
     let mut set = Accepted::new();
     admit(&table, &deadline, &mut set)?;
     let mut run = Checked::check(&set, &deadline)?.start();
@@ -129,7 +129,7 @@ fn the_dispatcher_asks_its_rule(rt: HostRuntime) -> Result<(), Fail> {
     let mut table = Table::new();
     table.add(figures(1, 0, 9, 9))?;
     table.add(figures(1, 0, 9, 9))?;
-    let deadline = Deadline::new(&table);
+    let deadline = Bottom::deadline(&table);
     let reversed = HigherFirst::new(&[9, 9]);
     let mut set = Accepted::new();
     admit(&table, &deadline, &mut set)?;

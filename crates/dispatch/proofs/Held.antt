@@ -1,5 +1,5 @@
 -- A list of calls made one after the other.
-use Rattle.std.proofs.Common.{◌≡◌, ℕ, ◌+◌, ◌<◌, ◌≤◌, Bool, List, [], ◌∷◌, ◌++◌, map, length, get_or, take, drop, set, ℤ, Some, Option, sym, refl, ap, ◌∙◌, subst, ap₂, arith, length-take}
+use Rattle.std.proofs.Common.{◌≡◌, ℕ, ◌+◌, ◌<◌, ◌≤◌, Bool, List, [], ◌∷◌, ◌++◌, map, length, get_or, take, drop, set, ℤ, Some, Option, Result, sym, refl, ap, ◌∙◌, subst, ap₂, arith, length-take}
 use Rattle.std.proofs.lemmas.List.{append_assoc, append-nil, drop_all, drop-drop, drop_more, drop-set-lt, take_all, take_more_set}
 use Rattle.std.specs.List.{zip}
 use Rattle.admission.proofs.Kept.{warrant}
@@ -16,6 +16,7 @@ use Rattle.model.specs.declared.call.Answer.{Answer}
 use Rattle.model.specs.declared.call.Call.{Call}
 use Rattle.model.specs.declared.figures.Figures.{Figures}
 use Rattle.model.specs.declared.job.JobId.{JobId}
+use Rattle.model.specs.declared.refusal.Refusal.{Refusal}
 use Rattle.dispatch.specs.Holding.{Made, calls, filled, transcript}
 use Rattle.dispatch.specs.Runs.{Agree}
 use Rattle.dispatch.specs.declared.holder.Entry.{Entry}
@@ -30,14 +31,14 @@ module _ (tasks : List Figures) (before : JobId → JobId → Bool) where
       (answers tasks before s (calls es))
   filled_answers s [] = refl
   filled_answers s (e ∷ es) =
-      ap (λ (rest : List (Option Answer)). Some (step tasks before e.call s).0 ∷ rest) (filled_answers (step tasks before
+      ap (λ (rest : List (Option (Result Answer Refusal))). Some (step tasks before e.call s).0 ∷ rest) (filled_answers (step tasks before
       e.call s).1 es)
 
   pub filled_transcript : (s : State) (es : List Entry) → transcript (filled tasks before s es) ≡ zip (calls es)
       (answers tasks before s (calls es))
   filled_transcript s [] = refl
   filled_transcript s (e ∷ es) =
-      ap (λ (t : List (Call × Answer)). (e.call, (step tasks before e.call s).0) ∷ t) (filled_transcript (step tasks before
+      ap (λ (t : List (Call × Result Answer Refusal)). (e.call, (step tasks before e.call s).0) ∷ t) (filled_transcript (step tasks before
       e.call s).1 es)
 
   -- The first entries have their answers, and the run is where these calls lead.

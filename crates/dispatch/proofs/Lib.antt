@@ -5,4 +5,3 @@ mod Foremost
 mod Held
 mod Outside
 mod Ticks
-mod Told

@@ -21,7 +21,7 @@ abbrev pub calls : List Entry → List Call
 calls = map (λ e. e.call)
 
 -- The entry with its answer, as a transcript has it; nothing where no answer stands.
-abbrev pub paired : Call → Option Answer → Transcript → Transcript
+abbrev pub paired : Call → Option (Result Answer Refusal) → Transcript → Transcript
 paired call None rest = rest
 paired call (Some answer) rest = (call, answer) ∷ rest
 

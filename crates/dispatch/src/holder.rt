@@ -14,7 +14,7 @@ use rules::OrderRule;
 #[derive(Clone, Copy, PartialEq, Eq, Debug)]
 pub struct Entry {
     pub call: Call,
-    pub answer: Option<Answer>,
+    pub answer: Option<Result<Answer, Refusal>>,
 }
 
 // Makes the calls of all entries in their order, and writes the answers.
@@ -48,10 +48,7 @@ pub fn hold<'s, R: OrderRule>(
         rule.now) entries.old entries.new result }
 {
     model::run_law();
-    let checked = match Checked::check(set, rule) {
-        Ok(checked) => checked,
-        Err(refusal) => return Err(refusal),
-    };
+    let checked = Checked::check(set, rule)?;
     let mut run = checked.start();
     make_all(&mut run, entries);
     Ok(run.close())

@@ -11,7 +11,7 @@ use admission::Accepted;
 use line::{Row, rework_rows, rows};
 use model::Refusal;
 use points::print_points;
-use rules::{Arrival, Deadline};
+use rules::Bottom;
 use shift::{print_held, print_run};
 use std::io;
 use tasks::Table;
@@ -56,15 +56,15 @@ fn main(rt: HostRuntime) -> io::Result<()> {
     print_points(&rt, &table)?;
     let mut place = Accepted::new();
     print_verdicts(&rt, &table, &mut place)?;
-    let deadline = Deadline::new(&table);
+    let deadline = Bottom::deadline(&table);
     print_run(&rt, &place, &deadline)?;
     print_held(&rt, &place, &deadline)?;
     println!(rt; "Started with another rule:")?;
-    print_run(&rt, &place, &Arrival::new())?;
+    print_run(&rt, &place, &Bottom::arrival())?;
     println!(rt; "The rework bench, tested in the place that holds the line:")?;
     let mut bench = Table::new();
     for row in rework_rows().iter() {
         let _ = enter(&rt, &mut bench, row)?;
     }
-    print_verdict(&rt, "deadline", &bench, &Deadline::new(&bench), &mut place)
+    print_verdict(&rt, "deadline", &bench, &Bottom::deadline(&bench), &mut place)
 }

@@ -1,5 +1,5 @@
 //! The points of the tasks under the rules that the line compares.
-use rules::{Arrival, Deadline, Level, OrderRule, Weighted};
+use rules::{Bottom, Figure, OrderRule, Weighted};
 use std::io;
 use tasks::Table;
 
@@ -15,12 +15,12 @@ fn print_row<R: OrderRule>(rt: &impl Print, label: &str, rule: &R, count: u32) -
 /// Prints a line for each rule.
 pub fn print_points(rt: &impl Print, table: &Table) -> io::Result<()> {
     let count = table.count() as u32;
-    let deadline = Deadline::new(table);
+    let deadline = Bottom::deadline(table);
     println!(rt; "Points of the tasks:")?;
     print_row(rt, "deadline", &deadline, count)?;
-    print_row(rt, "arrival", &Arrival::new(), count)?;
-    print_row(rt, "level", &Level::new(table), count)?;
-    match Weighted::by_suspension(table, 1, &deadline) {
+    print_row(rt, "arrival", &Bottom::arrival(), count)?;
+    print_row(rt, "level", &Bottom::level(table), count)?;
+    match Weighted::over(table, Figure::Suspension, 1, &deadline) {
         Ok(patient) => print_row(rt, "deadline, S-weight 1", &patient, count),
         Err(refusal) => println!(rt; "  {refusal}"),
     }

@@ -1,6 +1,6 @@
 //! The verdict on a table under the rules that the line compares.
 use admission::{Accepted, admit};
-use rules::{Arrival, Deadline, Level, OrderRule, Weighted};
+use rules::{Bottom, Figure, OrderRule, Weighted};
 use std::io;
 use tasks::Table;
 
@@ -25,10 +25,10 @@ pub fn print_verdict<R: OrderRule>(
 /// Tests a table under each rule in turn, always in the same place.
 pub fn print_verdicts(rt: &impl Print, table: &Table, place: &mut Accepted) -> io::Result<()> {
     println!(rt; "Verdicts:")?;
-    let deadline = Deadline::new(table);
-    print_verdict(rt, "arrival", table, &Arrival::new(), place)?;
-    print_verdict(rt, "level", table, &Level::new(table), place)?;
-    match Weighted::by_suspension(table, 1, &deadline) {
+    let deadline = Bottom::deadline(table);
+    print_verdict(rt, "arrival", table, &Bottom::arrival(), place)?;
+    print_verdict(rt, "level", table, &Bottom::level(table), place)?;
+    match Weighted::over(table, Figure::Suspension, 1, &deadline) {
         Ok(patient) => print_verdict(rt, "deadline, S-weight 1", table, &patient, place)?,
         Err(refusal) => println!(rt; "  {refusal}")?,
     }

@@ -14,7 +14,7 @@ ghost use Rattle.host.specs.Determined.{Determined};
 use admission::{Accepted, admit};
 use model::Refusal;
 use reading::{ROW, enter};
-use rules::{Bottom, Choice, Weighted};
+use rules::{Bottom, Choice, Figure, Weighted};
 use tasks::Table;
 use writing::{ANSWER, write_answers};
 
@@ -39,8 +39,8 @@ fn test(table: &Table, choice: Choice, place: &mut Accepted) -> Result<(), Refus
         place.old place.new result }
 {
     let bottom = Bottom::new(choice.kind, table);
-    let middle = Weighted::by_execution(table, choice.execution, &bottom)?;
-    let rule = Weighted::by_suspension(table, choice.suspension, &middle)?;
+    let middle = Weighted::over(table, Figure::Execution, choice.execution, &bottom)?;
+    let rule = Weighted::over(table, Figure::Suspension, choice.suspension, &middle)?;
     admit(table, &rule, place)
 }
 
@@ -49,7 +49,7 @@ fn answer(table: &[u8], rule: [u8; 3], res: &mut [u8]) -> Result<(), Refusal>
     ensures answer { Answered table.now rule res.old res.new (code result) }
 {
     check_lengths(table, res.len())?;
-    let choice = Choice::from_bytes(rule)?;
+    let choice = Choice::try_from(rule)?;
     let entered = enter(table)?;
     let mut place = Accepted::new();
     test(&entered, choice, &mut place)?;

@@ -15,7 +15,7 @@ fn row(bytes: &[u8], task: usize) -> Figures
     ensures value { result ≡ row bytes.now task }
 {
     let at = ROW * task;
-    Figures::from_bytes([
+    Figures::from([
         bytes[at],
         bytes[at + 1],
         bytes[at + 2],

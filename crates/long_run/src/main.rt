@@ -3,12 +3,12 @@
 
 use admission::Accepted;
 use dispatch::{Checked, LAST_CLOCK};
-use rules::Arrival;
+use rules::Bottom;
 use std::io;
 
 fn main(rt: HostRuntime) -> io::Result<()> {
     let set = Accepted::new();
-    let rule = Arrival::new();
+    let rule = Bottom::arrival();
     let checked = match Checked::check(&set, &rule) {
         Ok(checked) => checked,
         Err(refusal) => return println!(rt; "{refusal}"),

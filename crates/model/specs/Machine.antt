@@ -142,10 +142,14 @@ module _ (tasks : List Figures) (chosen : Option ℕ) (s : State) where
   abbrev pub advance : Result Ticked Refusal × State
   advance = call advancing s advanced next
 
--- What a call answers, granted or refused, with the granted answers of all calls in one type.
+-- A granted answer in the type that all calls share; a refusal stays.
+abbrev pub shared : {A : Type 0} → (A → Answer) → Result A Refusal → Result Answer Refusal
+shared wrap (Ok a) = Ok (wrap a)
+shared wrap (Err e) = Err e
+
+-- The same, with the state after the call.
 abbrev pub told : {A : Type 0} → (A → Answer) → Result A Refusal × State → Result Answer Refusal × State
-told wrap (Ok a, s) = (Ok (wrap a), s)
-told wrap (Err e, s) = (Err e, s)
+told wrap step = (shared wrap step.0, step.1)
 
 -- The calls that ask who has the processor, and all calls together.
 module _ (tasks : List Figures) (before : JobId → JobId → Bool) where

@@ -31,7 +31,7 @@ fn task(bytes: &[u8]) -> Result<Command, Refusal>
     ensures value { result ≡ a_task bytes.now }
     ensures fair { Fair result }
 {
-    Ok(Command::Task(Figures::from_bytes([
+    Ok(Command::Task(Figures::from([
         bytes[0], bytes[1], bytes[2], bytes[3], bytes[4], bytes[5], bytes[6], bytes[7],
     ])))
 }
@@ -41,7 +41,7 @@ fn rule(bytes: &[u8]) -> Result<Command, Refusal>
     ensures value { result ≡ a_rule bytes.now }
     ensures fair { Fair result }
 {
-    match Choice::from_bytes([bytes[0], bytes[1], bytes[2]]) {
+    match Choice::try_from([bytes[0], bytes[1], bytes[2]]) {
         Ok(choice) => Ok(Command::Rule(choice)),
         Err(refusal) => Err(refusal),
     }

@@ -19,7 +19,7 @@ use admission::{Accepted, admit};
 use dispatch::Checked;
 use model::Refusal;
 use record_log::Log;
-use rules::{Bottom, OrderRule, Weighted};
+use rules::{Bottom, Figure, OrderRule, Weighted};
 use script::{Command, Entered, NO_END, NO_STRETCH, RECORDS, Reader, Session, Setup};
 use std::alloc::{AllocError, Global};
 use tasks::Table;
@@ -98,10 +98,10 @@ fn start(setup: &Setup, reader: &mut Reader<'_>, text: &mut String) -> Result<bo
     let table = setup.table();
     let choice = setup.choice();
     let bottom = Bottom::new(choice.kind, table);
-    let Ok(middle) = Weighted::by_execution(table, choice.execution, &bottom) else {
+    let Ok(middle) = Weighted::over(table, Figure::Execution, choice.execution, &bottom) else {
         unreachable()
     };
-    let Ok(rule) = Weighted::by_suspension(table, choice.suspension, &middle) else {
+    let Ok(rule) = Weighted::over(table, Figure::Suspension, choice.suspension, &middle) else {
         unreachable()
     };
     test(table, &rule, reader, text)

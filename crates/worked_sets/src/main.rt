@@ -3,7 +3,7 @@
 
 use admission::{Accepted, admit};
 use model::{Figures, Refusal};
-use rules::{Arrival, Deadline, Level, OrderRule, Weighted};
+use rules::{Bottom, Figure, OrderRule, Weighted};
 use std::io;
 use tasks::Table;
 
@@ -49,17 +49,17 @@ fn test<R: OrderRule>(
     let mut place = Accepted::new();
     let verdict = admit(table, rule, &mut place);
     print_place(rt, label, verdict, &place)?;
-    let _ = admit(larger, &Deadline::new(larger), &mut place);
+    let _ = admit(larger, &Bottom::deadline(larger), &mut place);
     let verdict = admit(table, rule, &mut place);
     print_place(rt, "  behind a larger set", verdict, &place)
 }
 
 fn test_pair(rt: &impl Print, pair: &Table, larger: &Table) -> io::Result<()> {
-    let deadline = Deadline::new(pair);
+    let deadline = Bottom::deadline(pair);
     test(rt, "A, deadline", pair, &deadline, larger)?;
-    test(rt, "B, arrival", pair, &Arrival::new(), larger)?;
-    test(rt, "C, level", pair, &Level::new(pair), larger)?;
-    match Weighted::by_suspension(pair, -1, &deadline) {
+    test(rt, "B, arrival", pair, &Bottom::arrival(), larger)?;
+    test(rt, "C, level", pair, &Bottom::level(pair), larger)?;
+    match Weighted::over(pair, Figure::Suspension, -1, &deadline) {
         Ok(urgent) => test(rt, "D, deadline with S-weight -1", pair, &urgent, larger),
         Err(refusal) => println!(rt; "{refusal}"),
     }
@@ -72,9 +72,9 @@ fn main(rt: HostRuntime) -> io::Result<()> {
     let g = table(&[(2, 3, 5, 9)]);
     let h = table(&[(2, 3, 4, 9)]);
     test_pair(&rt, &table(&[(1, 2, 5, 5), (1, 3, 7, 7)]), &larger)?;
-    test(&rt, "E, deadline", &e, &Deadline::new(&e), &larger)?;
-    test(&rt, "F, deadline", &f, &Deadline::new(&f), &larger)?;
-    test(&rt, "G, deadline", &g, &Deadline::new(&g), &larger)?;
-    test(&rt, "H, deadline", &h, &Deadline::new(&h), &larger)?;
-    test(&rt, "empty", &Table::new(), &Arrival::new(), &larger)
+    test(&rt, "E, deadline", &e, &Bottom::deadline(&e), &larger)?;
+    test(&rt, "F, deadline", &f, &Bottom::deadline(&f), &larger)?;
+    test(&rt, "G, deadline", &g, &Bottom::deadline(&g), &larger)?;
+    test(&rt, "H, deadline", &h, &Bottom::deadline(&h), &larger)?;
+    test(&rt, "empty", &Table::new(), &Bottom::arrival(), &larger)
 }

@@ -3,58 +3,11 @@ ghost use Rattle.std.specs.Prelude.{◌≡◌};
 ghost use Rattle.dispatch.specs.Runs.{Kept, of_rule, set_tasks, state};
 ghost use Rattle.dispatch.specs.Sound.{Sound};
 ghost use Rattle.model.specs.Figures.{Tasks};
-ghost use Rattle.model.specs.State.{State};
-ghost use Rattle.model.specs.declared.call.Answer.TheVariants.{Finished, Passed, Released, Waits, Woken};
-ghost use Rattle.model.specs.Machine.{finish, release, step, tick, told, wait, wake};
+ghost use Rattle.model.specs.Machine.{finish, release, step, tick, wait, wake};
 
 use super::Run;
 use model::{Answer, Call, Ended, Figures, Refusal, Ticked};
 use rules::OrderRule;
-
-fn released(res: Result<u32, Refusal>) -> Answer
-    ensures value { (s : State) → result ≡ (told Released (res, s)).0 }
-{
-    match res {
-        Ok(value) => Answer::Released(value),
-        Err(refusal) => Answer::Refused(refusal),
-    }
-}
-
-fn waits(res: Result<u32, Refusal>) -> Answer
-    ensures value { (s : State) → result ≡ (told Waits (res, s)).0 }
-{
-    match res {
-        Ok(value) => Answer::Waits(value),
-        Err(refusal) => Answer::Refused(refusal),
-    }
-}
-
-fn woken(res: Result<u16, Refusal>) -> Answer
-    ensures value { (s : State) → result ≡ (told Woken (res, s)).0 }
-{
-    match res {
-        Ok(value) => Answer::Woken(value),
-        Err(refusal) => Answer::Refused(refusal),
-    }
-}
-
-fn finished(res: Result<Ended, Refusal>) -> Answer
-    ensures value { (s : State) → result ≡ (told Finished (res, s)).0 }
-{
-    match res {
-        Ok(value) => Answer::Finished(value),
-        Err(refusal) => Answer::Refused(refusal),
-    }
-}
-
-fn passed(res: Result<Ticked, Refusal>) -> Answer
-    ensures value { (s : State) → result ≡ (told Passed (res, s)).0 }
-{
-    match res {
-        Ok(value) => Answer::Passed(value),
-        Err(refusal) => Answer::Refused(refusal),
-    }
-}
 
 impl<'s, R: OrderRule> Run<'s, R> {
     // The tasks of the set.
@@ -133,7 +86,7 @@ impl<'s, R: OrderRule> Run<'s, R> {
     }
 
     /// Makes a call that is given as a value; the answer is that of the call's own method.
-    pub fn call(&mut self, call: Call) -> Answer
+    pub fn call(&mut self, call: Call) -> Result<Answer, Refusal>
         ensures answer { result
             ≡ (step (set_tasks self.old) (R.OrderRule.before (of_rule self.old)) call (state
             self.old)).0 }
@@ -143,11 +96,11 @@ impl<'s, R: OrderRule> Run<'s, R> {
         ensures kept { Kept self.old self.new }
     {
         match call {
-            Call::Release(task) => released(self.release(task)),
-            Call::Wait => waits(self.wait()),
-            Call::Wake(task) => woken(self.wake(task)),
-            Call::Finish => finished(self.finish()),
-            Call::Tick => passed(self.tick()),
+            Call::Release(task) => self.release(task).map(Answer::Released),
+            Call::Wait => self.wait().map(Answer::Waits),
+            Call::Wake(task) => self.wake(task).map(Answer::Woken),
+            Call::Finish => self.finish().map(Answer::Finished),
+            Call::Tick => self.tick().map(Answer::Passed),
         }
     }
 }

@@ -16,7 +16,7 @@ impl Setup {
     {
         Setup {
             table: Table::new(),
-            choice: Choice::plain(),
+            choice: Choice::default(),
         }
     }
 

@@ -15,7 +15,7 @@ returns g c =
     let given = c.args.entries.now in
     let run = c.start-run.result in
     let ended = c.make_all.new.run in
-    let matched = c.in-Ok.ensures.answer in
+    let matched = c.in_ok-checked.ensures.answer in
     let same_set : of_set run ≡ set = c.start-run.ensures.set ∙ matched.1 in
     let same_rule : of_rule run ≡ c.args.rule.now = c.start-run.ensures.rule ∙ matched.2 in
     record {

@@ -1,8 +1,9 @@
-use Rattle.std.proofs.Common.{get_or, Some, None, ap, ◌∙◌, ap₂, arith}
+use Rattle.std.proofs.Common.{get_or, Some, None, Result, ap, ◌∙◌, ap₂, arith}
 use Rattle.admission.specs.Views.{tasks_of}
 use Rattle.model.specs.Machine.{step}
 use Rattle.model.specs.declared.call.Answer.{Answer}
 use Rattle.model.specs.declared.call.Call.TheVariants.{Release}
+use Rattle.model.specs.declared.refusal.Refusal.{Refusal}
 use Rattle.dispatch.proofs.Held.{filled_all, filling_more, state_after}
 use Rattle.dispatch.specs.Runs.{of_rule, of_set, state}
 use Rattle.dispatch.specs.declared.holder.Entry.{Entry}
@@ -21,7 +22,7 @@ loop-slot-preserved g c =
           c.loop-slot.entries
           c.loop-slot.slot-index c.loop-slot.invariant.1 (omega arith) blank (state c.call.new.self)
           (record { call = call; answer = Some c.call.result })
-          (ap (λ (a : Answer). record { call = call; answer = Some a }) (c.call.ensures.answer ∙ ap (λ p. p.0) same))
+          (ap (λ (a : Result Answer Refusal). record { call = call; answer = Some a }) (c.call.ensures.answer ∙ ap (λ p. p.0) same))
           (c.call.ensures.state ∙ ap (λ p. p.1) same),
     )
 
