@@ -4,7 +4,7 @@
 
 use admission::{Accepted, admit};
 use dispatch::{Checked, Run};
-use model::{Answer, Call, Figures};
+use model::{Answer, Call, Figures, Refusal};
 use rules::{Bottom, OrderRule};
 use std::time::Instant;
 use tasks::{CAPACITY, Table};
@@ -25,28 +25,25 @@ fn line() -> Table {
 }
 
 /// A number for an answer.
-fn code(answer: Answer) -> u64 {
+fn code(answer: Result<Answer, Refusal>) -> u64 {
     match answer {
-        Answer::Released(clock) => 1 ^ (u64::from(clock) << 8),
-        Answer::Waits(task) => 2 ^ (u64::from(task) << 8),
-        Answer::Woken(waited) => 3 ^ (u64::from(waited) << 8),
-        Answer::Finished(ended) => {
+        Ok(Answer::Released(clock)) => 1 ^ (u64::from(clock) << 8),
+        Ok(Answer::Waits(task)) => 2 ^ (u64::from(task) << 8),
+        Ok(Answer::Woken(waited)) => 3 ^ (u64::from(waited) << 8),
+        Ok(Answer::Finished(ended)) => {
             4 ^ (u64::from(ended.task) << 8)
                 ^ (u64::from(ended.age) << 16)
                 ^ (u64::from(ended.given) << 48)
         }
-        Answer::Passed(ticked) => {
-            let ran = match ticked.ran {
-                Some(task) => u64::from(task),
-                None => 255,
-            };
+        Ok(Answer::Passed(ticked)) => {
+            let ran = u64::from(ticked.ran.unwrap_or(255));
             5 ^ (ran << 8) ^ (u64::from(ticked.ended) << 16) ^ (u64::from(ticked.forced) << 24)
         }
-        Answer::Refused(refusal) => 6 ^ (u64::from(refusal.number()) << 8),
+        Err(refusal) => 6 ^ (u64::from(refusal.number()) << 8),
     }
 }
 
-fn joined(sum: u64, answer: Answer) -> u64 {
+fn joined(sum: u64, answer: Result<Answer, Refusal>) -> u64 {
     (sum ^ code(answer)).wrapping_mul(0x100_0000_01B3)
 }
 
@@ -72,18 +69,8 @@ fn main(rt: HostRuntime) -> anyhow::Result<()> {
     let table = line();
     let rule = Bottom::deadline(&table);
     let mut set = Accepted::new();
-    if let Err(refusal) = admit(&table, &rule, &mut set) {
-        println!(rt; "{refusal}")?;
-        return Ok(());
-    }
-    let checked = match Checked::check(&set, &rule) {
-        Ok(checked) => checked,
-        Err(refusal) => {
-            println!(rt; "{refusal}")?;
-            return Ok(());
-        }
-    };
-    let mut run = checked.start();
+    admit(&table, &rule, &mut set)?;
+    let mut run = Checked::check(&set, &rule)?.start();
     let start = Instant::now(&rt)?;
     let mut sum = 0;
     for tick in 0..ticks {

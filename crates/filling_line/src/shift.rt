@@ -1,7 +1,7 @@
 //! A shift: the admitted line is dispatched, call by call and in one go.
 use admission::Accepted;
 use dispatch::{Checked, Entry, Run, hold};
-use model::{Answer, Call, Ticked};
+use model::{Answer, Call, Refusal, Ticked};
 use rules::OrderRule;
 use std::io;
 
@@ -56,26 +56,26 @@ fn print_tick(rt: &impl Print, tick: Ticked) -> io::Result<()> {
     println!(rt; "")
 }
 
-fn print_answer(rt: &impl Print, answer: Answer) -> io::Result<()> {
+fn print_answer(rt: &impl Print, answer: Result<Answer, Refusal>) -> io::Result<()> {
     match answer {
-        Answer::Released(clock) => println!(rt; " a job is open since {clock}"),
-        Answer::Waits(task) => println!(rt; " task {task} waits"),
-        Answer::Woken(waited) => println!(rt; " it has waited {waited}"),
-        Answer::Finished(end) => {
+        Ok(Answer::Released(clock)) => println!(rt; " a job is open since {clock}"),
+        Ok(Answer::Waits(task)) => println!(rt; " task {task} waits"),
+        Ok(Answer::Woken(waited)) => println!(rt; " it has waited {waited}"),
+        Ok(Answer::Finished(end)) => {
             let task = end.task;
             let given = end.given;
             println!(rt; " task {task} ended with {given} ticks given")
         }
-        Answer::Passed(tick) => print_tick(rt, tick),
-        Answer::Refused(refusal) => println!(rt; " {refusal}"),
+        Ok(Answer::Passed(tick)) => print_tick(rt, tick),
+        Err(refusal) => println!(rt; " {refusal}"),
     }
 }
 
 // The task whose job a call ended, if it ended one.
-fn ended(answer: Answer) -> Option<u32> {
+fn ended(answer: Result<Answer, Refusal>) -> Option<u32> {
     match answer {
-        Answer::Finished(end) => Some(end.task),
-        Answer::Passed(tick) if tick.ended => tick.ran,
+        Ok(Answer::Finished(end)) => Some(end.task),
+        Ok(Answer::Passed(tick)) if tick.ended => tick.ran,
         _ => None,
     }
 }

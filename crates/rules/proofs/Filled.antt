@@ -1,25 +1,15 @@
 -- Points that are filled in one by one, in the order of the tasks.
-use Rattle.std.proofs.Common.{◌≡◌, ℕ, ◌+◌, ◌<◌, Bool, true, cond, ltb, ◌≢◌, List, length, get_or, set, replicate, ℤ, pos, sym, ap, ◌∙◌, subst, ⊎_elim, arith}
-use mathlib.Core.Path.{fun_ext}
+use Rattle.std.proofs.Common.{◌≡◌, ℕ, ◌+◌, ◌<◌, Bool, true, cond, ltb, ◌≢◌, List, length, get_or, set, ℤ, pos, sym, ap, ◌∙◌, subst, ⊎_elim, arith}
 use Rattle.std.proofs.lemmas.List.{get_or-set_same, get_or-set_other}
 use Rattle.std.proofs.lemmas.Bool.{cases_eq}
 use Rattle.std.proofs.lemmas.Bool.Decides.{nat_tests}
 use Rattle.model.specs.Figures.{most_tasks}
-use Rattle.model.specs.Rules.{pointed}
-use Rattle.model.specs.declared.figures.Figures.{Figures}
-use Rattle.rules.proofs.Stored.{each_of_zeros}
 use Rattle.rules.specs.Points.{point_of}
 use Rattle.rules.specs.declared.points.Points.{Points}
 
 -- The first n numbers have their points, and all others 0.
 abbrev pub Filled : Points → ℕ → (ℕ → ℤ) → Type 0
 Filled p n point = (k : ℕ) → point_of p k ≡ cond (ltb k n) (point k) (pos 0)
-
-pub filled_none : (p : Points) (point : ℕ → ℤ) → p.at ≡ replicate most_tasks (pos 0) → Filled p 0 point
-filled_none p point e k =
-    let empty : pos 0 ≡ cond (ltb k 0) (point k) (pos 0) = grind (arith, nat_tests) in
-    subst (λ (xs : List ℤ). get_or xs k (pos 0) ≡ cond (ltb k 0) (point k) (pos 0)) (sym e)
-    (each_of_zeros (λ z. z ≡ cond (ltb k 0) (point k) (pos 0)) empty most_tasks k)
 
 pub filled_more : (p q : Points) (n : ℕ) (point : ℕ → ℤ) (x : ℤ) → q.at ≡ set p.at n x → n < most_tasks → x ≡ point n
     → Filled p n point → Filled q (n + 1) point
@@ -34,9 +24,3 @@ filled_more p q n point x put h e all k =
     let unmoved : ltb k n ≡ ltb k (n + 1) = grind (arith, nat_tests) in
     get_or-set_other p.at n k x (pos 0) other ∙ (all k ∙ ap (λ (b : Bool). cond b (point k) (pos 0)) unmoved))
     (cases_eq k n)
-
-pub filled_all : (p : Points) (n : ℕ) (tasks listed : List Figures) (point : List Figures → ℕ → ℤ) → tasks ≡ listed → n ≡ length tasks
-    → Filled p n (point tasks) → point_of p ≡ pointed listed (point listed)
-filled_all p n tasks listed point same full all =
-    subst (λ (ts : List Figures). point_of p ≡ pointed ts (point ts)) same
-    (fun_ext (λ k. all k ∙ ap (λ (m : ℕ). cond (ltb k m) (point tasks k) (pos 0)) full))

@@ -1,5 +1,4 @@
 pub mod Chosen
 mod Filled
 mod Made
-mod Products
 mod Stored

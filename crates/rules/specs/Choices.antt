@@ -37,8 +37,9 @@ choose kind execution suspension =
     question ((out_of_range kind execution suspension, RuleOutOfRange) ∷ []) (choice_of kind execution suspension)
 
 -- What three bytes give: the choice that they make, or the refusal; and the weights of a choice are in their range.
-abbrev pub Chosen : List ℕ → Result Choice Refusal → Type 0
-Chosen bytes r = (r ≡ choose (slice_index bytes 0) (slice_index bytes 1) (slice_index bytes 2)) × IfOk r Light
+pub record Chosen (bytes : List ℕ) (r : Result Choice Refusal) : Type 0 where
+  pub answer : r ≡ choose (slice_index bytes 0) (slice_index bytes 1) (slice_index bytes 2)
+  pub light : IfOk r Light
 
 -- Deadline with weights 0.
 abbrev pub plain : Choice

@@ -1,5 +1,5 @@
 //! The points of a rule, made once.
-ghost use Rattle.std.specs.Prelude.{◌≡◌, ◌<◌, ℕ, length, replicate, pos, neg_ℤ, ◌≤ℤ◌, slice_index_or, slice_set};
+ghost use Rattle.std.specs.Prelude.{◌≡◌, ◌<◌, ℕ, length, pos, neg_ℤ, ◌≤ℤ◌, slice_index_or, slice_set};
 ghost use Rattle.model.specs.Figures.{most_tasks};
 ghost use Rattle.model.specs.Orders.{InRange, farthest};
 ghost use Rattle.model.specs.Rules.{arrival_point};
@@ -26,7 +26,7 @@ impl Points {
 
     /// The point 0 for every number.
     pub(crate) fn zero() -> Points
-        ensures value { result.at ≡ replicate most_tasks (pos 0) }
+        ensures each { (k : ℕ) → point_of result k ≡ pos 0 }
         ensures points { point_of result ≡ arrival_point }
     {
         Points { at: [0; CAPACITY] }

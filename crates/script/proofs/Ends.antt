@@ -1,5 +1,5 @@
 -- The end records are the ended jobs of the reading.
-use Rattle.std.proofs.Common.{◌≡◌, ℕ, ◌≤◌, Bool, true, false, cond, ◌||◌, eqb, List, [], ◌∷◌, ◌++◌, length, ℤ, Some, None, Option, unwrap_or, sym, refl, ap, ◌∙◌, subst, ⊎_elim, append-nil, arith}
+use Rattle.std.proofs.Common.{◌≡◌, ℕ, ◌≤◌, Bool, true, false, cond, ◌||◌, eqb, List, [], ◌∷◌, ◌++◌, length, ℤ, Some, None, Option, unwrap_or, sym, refl, ap, ◌∙◌, subst, ⊎_elim, append-nil, arith, Ok, Err, Result}
 use Rattle.std.proofs.ByRecursion.{All-append, All-weaker}
 use Rattle.std.proofs.lemmas.Bool.{and_parts, both_ways, cases_eq, eq-eqb, false≢true, ne_eqb}
 use Rattle.std.specs.Option.{option_map}
@@ -11,11 +11,12 @@ use Rattle.model.specs.Reading.{Reading, Observed, Fate, still_open, by_tick, by
 use Rattle.model.specs.Reading.{finished, for_earliest, given_one, now, read, with_supply}
 use Rattle.model.specs.State.{State, job, no_job}
 use Rattle.model.specs.declared.call.Answer.{Answer}
-use Rattle.model.specs.declared.call.Answer.TheVariants.{Released, Waits, Woken, Finished, Passed, Refused}
+use Rattle.model.specs.declared.call.Answer.TheVariants.{Released, Waits, Woken, Finished, Passed}
 use Rattle.model.specs.declared.call.Call.{Call}
 use Rattle.model.specs.declared.call.Call.TheVariants.{Release, Wait, Wake, Finish, Tick}
 use Rattle.model.specs.declared.figures.Figures.{Figures}
 use Rattle.model.specs.declared.job.Job.{Job}
+use Rattle.model.specs.declared.refusal.Refusal.{Refusal}
 use Rattle.script.specs.RecordLaw.{Ascend, EndsAre, end_shown, ends_shown, records_of}
 use Rattle.script.specs.Sessions.{end_of, ended_by}
 use Rattle.script.specs.declared.records.Cause.TheVariants.{Count}
@@ -119,28 +120,28 @@ module _ {tasks : List Figures} {bounds : List ℕ} {point : ℕ → ℤ} {s aft
       decided ticks task (given_one (length ticks) true) (by_tick after.clock) (λ k _. ap by_tick kept'.clock) kept'
   supplied ticks (Some task) false kept' = decided ticks task (given_one (length ticks) false) still_open (λ k still. still) kept'
 
-  answer_shown : (c : Call) (answer : Answer) → Kept tasks bounds point after (read c answer r)
+  answer_shown : (c : Call) (answer : Result Answer Refusal) → Kept tasks bounds point after (read c answer r)
       → Shown r.jobs (read c answer r).jobs (listed (ended_by answer after))
-  answer_shown (Release task) (Released clock) kept' = one_changed r.jobs task _ [] refl (λ _ _. refl)
-  answer_shown Wait (Released clock) kept' = unchanged r.jobs
-  answer_shown (Wake task) (Released clock) kept' = unchanged r.jobs
-  answer_shown Finish (Released clock) kept' = unchanged r.jobs
-  answer_shown Tick (Released clock) kept' = unchanged r.jobs
-  answer_shown c (Waits task) kept' = unchanged r.jobs
-  answer_shown c (Woken waited) kept' = unchanged r.jobs
-  answer_shown c (Finished e) kept' =
+  answer_shown (Release task) (Ok (Released clock)) kept' = one_changed r.jobs task _ [] refl (λ _ _. refl)
+  answer_shown Wait (Ok (Released clock)) kept' = unchanged r.jobs
+  answer_shown (Wake task) (Ok (Released clock)) kept' = unchanged r.jobs
+  answer_shown Finish (Ok (Released clock)) kept' = unchanged r.jobs
+  answer_shown Tick (Ok (Released clock)) kept' = unchanged r.jobs
+  answer_shown c (Ok (Waits task)) kept' = unchanged r.jobs
+  answer_shown c (Ok (Woken waited)) kept' = unchanged r.jobs
+  answer_shown c (Ok (Finished e)) kept' =
       decided r.ticks e.task (finished (now r) e) (by_finish after.clock e)
       (λ k _. ap (λ end. by_finish end e) kept'.clock) kept'
-  answer_shown c (Passed t) kept' = supplied (t.ran ∷ r.ticks) t.ran t.ended kept'
-  answer_shown c (Refused why) kept' = unchanged r.jobs
+  answer_shown c (Ok (Passed t)) kept' = supplied (t.ran ∷ r.ticks) t.ran t.ended kept'
+  answer_shown c (Err why) kept' = unchanged r.jobs
 
 -- The end that a call brings is at the clock after it, and no end before it is later.
-ended_now : (answer : Answer) (s : State) → AllByRecursion (λ e. e.end ≡ s.clock) (listed (ended_by answer s))
-ended_now (Released clock) s = tt
-ended_now (Waits task) s = tt
-ended_now (Woken waited) s = tt
-ended_now (Finished e) s = (refl, tt)
-ended_now (Passed t) s = go t.ran t.ended
+ended_now : (answer : Result Answer Refusal) (s : State) → AllByRecursion (λ e. e.end ≡ s.clock) (listed (ended_by answer s))
+ended_now (Ok (Released clock)) s = tt
+ended_now (Ok (Waits task)) s = tt
+ended_now (Ok (Woken waited)) s = tt
+ended_now (Ok (Finished e)) s = (refl, tt)
+ended_now (Ok (Passed t)) s = go t.ran t.ended
   where
     go : (ran : Option ℕ) (ended : Bool)
         → AllByRecursion (λ e. e.end ≡ s.clock) (listed (cond ended (option_map (λ task. end_of task Count s) ran) None))
@@ -148,7 +149,7 @@ ended_now (Passed t) s = go t.ran t.ended
     go None false = tt
     go (Some task) true = (refl, tt)
     go (Some task) false = tt
-ended_now (Refused why) s = tt
+ended_now (Err why) s = tt
 
 ascend_more : (clock later : ℕ) (es new : List EndRecord) → clock ≤ later → AllByRecursion (λ e. e.end ≤ later) es
     → AllByRecursion (λ e. e.end ≡ later) new → Ascend clock es → Ascend clock (es ++ new)
@@ -164,7 +165,7 @@ pub record Recorded (r : Reading) (ends : List EndRecord) : Type 0 where
   pub past : AllByRecursion (λ e. e.end ≤ now r) ends
 
 pub ends_go : {tasks : List Figures} {bounds : List ℕ} {point : ℕ → ℤ} {s after : State} {r : Reading} {ends : List EndRecord}
-    → Kept tasks bounds point s r → (c : Call) (answer : Answer) → Kept tasks bounds point after (read c answer r)
+    → Kept tasks bounds point s r → (c : Call) (answer : Result Answer Refusal) → Kept tasks bounds point after (read c answer r)
     → Recorded r ends → Recorded (read c answer r) (ends ++ listed (ended_by answer after))
 ends_go {after} {r} {ends} kept c answer kept' rec =
     record {

@@ -1,5 +1,5 @@
 -- The tasks that answers name are tasks of the set.
-use Rattle.std.proofs.Common.{◌≡◌, ℕ, Bool, true, false, cond, List, [], ◌∷◌, length, ℤ, Some, None, Err, Option, sym, subst}
+use Rattle.std.proofs.Common.{◌≡◌, ℕ, Bool, true, false, cond, List, [], ◌∷◌, length, ℤ, Some, None, Err, Option, sym, subst, Ok, Result}
 use Rattle.model.specs.Checks.{Checks, call}
 use Rattle.model.specs.Machine.{advance, advanced, advancing, complete, next, step, told}
 use Rattle.model.specs.Machine.{releasing, suspending, waking}
@@ -13,12 +13,13 @@ use Rattle.model.specs.declared.call.Call.{Call}
 use Rattle.model.specs.declared.call.Call.TheVariants.{Release, Wait, Wake, Finish, Tick}
 use Rattle.model.specs.declared.figures.Figures.{Figures}
 use Rattle.model.specs.declared.job.JobId.{JobId}
+use Rattle.model.specs.declared.refusal.Refusal.{Refusal}
 use Rattle.model.proofs.Processor.{processor_law}
 use Rattle.script.specs.Names.{Named}
 
 -- A refusal names no task.
 unless_refused : {A : Type 0} (many : ℕ) (wrap : A → Answer) (checks : Checks) (s : State) (answer : A) (after : State)
-    → Named many (wrap answer) → Named many (told wrap (call checks s answer after)).0
+    → Named many (Ok (wrap answer)) → Named many (told wrap (call checks s answer after)).0
 unless_refused many wrap [] s answer after named = named
 unless_refused many wrap (check ∷ rest) s answer after named = go check.0 (unless_refused many wrap rest s answer after named)
   where
@@ -48,7 +49,7 @@ module _ (tasks : List Figures) (before : JobId → JobId → Bool) (s : State) 
 
 -- The same of an answer that is told, and of tasks that stay.
 pub named_as : (tasks before_tasks : List Figures) (before : JobId → JobId → Bool) (s : State) (point : ℕ → ℤ) → Lawful point before
-    → (c : Call) (a : Answer) → tasks ≡ before_tasks → a ≡ (step before_tasks before c s).0 → Named (length tasks) a
+    → (c : Call) (a : Result Answer Refusal) → tasks ≡ before_tasks → a ≡ (step before_tasks before c s).0 → Named (length tasks) a
 named_as tasks before_tasks before s point lawful c a same told_is =
     subst (λ (ts : List Figures). Named (length ts) a) (sym same)
     (subst (Named (length before_tasks)) (sym told_is) (named before_tasks before s point lawful c))

@@ -1,5 +1,5 @@
 -- The law of records, by induction over the calls.
-use Rattle.std.proofs.Common.{◌≡◌, ℕ, Bool, false, List, [], ◌∷◌, ◌++◌, ℤ, sym, refl, ap, ◌∙◌, subst}
+use Rattle.std.proofs.Common.{◌≡◌, ℕ, Bool, false, List, [], ◌∷◌, ◌++◌, ℤ, sym, refl, ap, ◌∙◌, subst, Ok, Err, Result}
 use Rattle.std.specs.Option.{option_map}
 use Rattle.std.specs.List.{zip}
 use Rattle.model.proofs.Admitted.{Admitted}
@@ -9,10 +9,10 @@ use Rattle.model.specs.Machine.{answers, step}
 use Rattle.model.specs.Reading.{Reading, blank, read, read_on}
 use Rattle.model.specs.State.{State}
 use Rattle.model.specs.declared.call.Answer.{Answer}
-use Rattle.model.specs.declared.call.Answer.TheVariants.{Released, Waits, Woken, Finished, Passed, Refused}
 use Rattle.model.specs.declared.call.Call.{Call}
 use Rattle.model.specs.declared.figures.Figures.{Figures}
 use Rattle.model.specs.declared.job.JobId.{JobId}
+use Rattle.model.specs.declared.refusal.Refusal.{Refusal}
 use Rattle.script.specs.RecordLaw.{EndsAre, RecordLaw, StretchesAre, Throughout, books_after, end_kept, row_kept}
 use Rattle.script.specs.Sessions.{Books, called, ended_by, lost, noted, opened, outcome, rows, settled, stretch}
 use Rattle.script.specs.declared.records.Stretch.{Stretch}
@@ -21,15 +21,11 @@ use Rattle.script.proofs.Noted.{listed, noted_all, ticks_after, ticks_read}
 use Rattle.script.proofs.Stretches.{Going, rows_go, settles}
 
 -- A refusal loses no record, and a granted call that lost none says so.
-nothing_lost : (end_room row_room : ℕ) (b : Books) (answer : Answer) (after : State)
+nothing_lost : (end_room row_room : ℕ) (b : Books) (answer : Result Answer Refusal) (after : State)
     → (end_kept (outcome answer (lost end_room row_room b answer after)) → (lost end_room row_room b answer after).end ≡ false)
     × (row_kept (outcome answer (lost end_room row_room b answer after)) → (lost end_room row_room b answer after).row ≡ false)
-nothing_lost end_room row_room b (Released clock) after = (λ e. e, λ e. e)
-nothing_lost end_room row_room b (Waits task) after = (λ e. e, λ e. e)
-nothing_lost end_room row_room b (Woken waited) after = (λ e. e, λ e. e)
-nothing_lost end_room row_room b (Finished ended) after = (λ e. e, λ e. e)
-nothing_lost end_room row_room b (Passed t) after = (λ e. e, λ e. e)
-nothing_lost end_room row_room b (Refused why) after = (λ _. refl, λ _. refl)
+nothing_lost end_room row_room b (Ok answer) after = (λ e. e, λ e. e)
+nothing_lost end_room row_room b (Err why) after = (λ _. refl, λ _. refl)
 
 module _ {tasks : List Figures} {points : List ℤ} {bounds : List ℕ} {point : ℕ → ℤ} {before : JobId → JobId → Bool}
     (set : Admitted tasks points bounds point before) (end_room row_room : ℕ) where

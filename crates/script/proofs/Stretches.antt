@@ -1,12 +1,13 @@
 -- The stretches and the row that goes on are the ticks of the reading.
-use Rattle.std.proofs.Common.{◌≡◌, ℕ, ◌+◌, ◌-◌, ◌<◌, ◌≤◌, Bool, true, false, cond, List, [], ◌∷◌, ◌++◌, reverse, length, replicate, Some, None, Option, sym, refl, ap, ◌∙◌, subst, append_assoc, append-nil, arith, length-append}
+use Rattle.std.proofs.Common.{◌≡◌, ℕ, ◌+◌, ◌-◌, ◌<◌, ◌≤◌, Bool, true, false, cond, List, [], ◌∷◌, ◌++◌, reverse, length, replicate, Some, None, Option, sym, refl, ap, ◌∙◌, subst, append_assoc, append-nil, arith, length-append, Ok, Err, Result}
 use mathlib.Core.List.{reverse-cons}
 use Rattle.std.proofs.lemmas.List.{length-replicate, length-reverse, replicate_more}
 use Rattle.std.proofs.lemmas.Bool.{eqb-true, false≢true}
 use Rattle.std.specs.Option.{option_map}
 use Rattle.model.specs.Reading.{Reading, now}
 use Rattle.model.specs.declared.call.Answer.{Answer}
-use Rattle.model.specs.declared.call.Answer.TheVariants.{Released, Waits, Woken, Finished, Passed, Refused}
+use Rattle.model.specs.declared.call.Answer.TheVariants.{Released, Waits, Woken, Finished, Passed}
+use Rattle.model.specs.declared.refusal.Refusal.{Refusal}
 use Rattle.script.specs.RecordLaw.{Adjoin, Differ, StretchesAre, written_out}
 use Rattle.script.specs.Sessions.{alike, going, rows, stopped, stretch}
 use Rattle.script.specs.declared.records.Row.{Row}
@@ -115,11 +116,11 @@ module _ (r : Reading) (ss : List Stretch) where
   rests : (row : Option Row) → Going r.ticks ss row → Going r.ticks (ss ++ []) row
   rests row on = subst (λ xs. Going r.ticks xs row) (sym (append-nil ss)) on
 
-  pub rows_go : (row : Option Row) (answer : Answer) → Going r.ticks ss row
+  pub rows_go : (row : Option Row) (answer : Result Answer Refusal) → Going r.ticks ss row
       → Going (ticks_after answer r.ticks) (ss ++ listed (rows (now r) answer row).0) (rows (now r) answer row).1
-  rows_go row (Released clock) on = rests row on
-  rows_go row (Waits task) on = rests row on
-  rows_go row (Woken waited) on = rests row on
-  rows_go row (Finished e) on = rests row on
-  rows_go row (Passed t) on = passes row t.ran on
-  rows_go row (Refused why) on = rests row on
+  rows_go row (Ok (Released clock)) on = rests row on
+  rows_go row (Ok (Waits task)) on = rests row on
+  rows_go row (Ok (Woken waited)) on = rests row on
+  rows_go row (Ok (Finished e)) on = rests row on
+  rows_go row (Ok (Passed t)) on = passes row t.ran on
+  rows_go row (Err why) on = rests row on

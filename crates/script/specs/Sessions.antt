@@ -5,7 +5,7 @@ use Rattle.record_log.specs.Records.{pushed}
 use Rattle.model.specs.Machine.{step}
 use Rattle.model.specs.State.{State, job, start}
 use Rattle.model.specs.declared.call.Answer.{Answer}
-use Rattle.model.specs.declared.call.Answer.TheVariants.{Released, Waits, Woken, Finished, Passed, Refused}
+use Rattle.model.specs.declared.call.Answer.TheVariants.{Released, Waits, Woken, Finished, Passed}
 use Rattle.model.specs.declared.call.Call.{Call as RunCall}
 use Rattle.model.specs.declared.figures.Figures.{Figures}
 use Rattle.model.specs.declared.job.JobId.{JobId}
@@ -39,13 +39,13 @@ end_of task cause s =
     record { task = task; release = (job s task).release; end = s.clock; given = (job s task).given; cause = cause }
 
 -- The end that a call with this answer brought, from the state after it.
-abbrev pub ended_by : Answer → State → Option EndRecord
-ended_by (Released clock) s = None
-ended_by (Waits task) s = None
-ended_by (Woken waited) s = None
-ended_by (Finished e) s = Some (end_of e.task Finish s)
-ended_by (Passed t) s = cond t.ended (option_map (λ task. end_of task Count s) t.ran) None
-ended_by (Refused why) s = None
+abbrev pub ended_by : Result Answer Refusal → State → Option EndRecord
+ended_by (Ok (Released clock)) s = None
+ended_by (Ok (Waits task)) s = None
+ended_by (Ok (Woken waited)) s = None
+ended_by (Ok (Finished e)) s = Some (end_of e.task Finish s)
+ended_by (Ok (Passed t)) s = cond t.ended (option_map (λ task. end_of task Count s) t.ran) None
+ended_by (Err why) s = None
 
 -- Two ticks are given to one task, or both to none.
 abbrev pub alike : Option ℕ → Option ℕ → Bool
@@ -70,13 +70,13 @@ going clock ran (Some row) = cond (alike row.task ran) row (record { task = ran;
 
 -- The row that a call with this answer stops, and the row that goes on, from the clock before it. Only ticks make or break a
 -- row.
-abbrev pub rows : ℕ → Answer → Option Row → Option Stretch × Option Row
-rows clock (Released at) row = (None, row)
-rows clock (Waits task) row = (None, row)
-rows clock (Woken waited) row = (None, row)
-rows clock (Finished e) row = (None, row)
-rows clock (Passed t) row = (stopped clock t.ran row, Some (going clock t.ran row))
-rows clock (Refused why) row = (None, row)
+abbrev pub rows : ℕ → Result Answer Refusal → Option Row → Option Stretch × Option Row
+rows clock (Ok (Released at)) row = (None, row)
+rows clock (Ok (Waits task)) row = (None, row)
+rows clock (Ok (Woken waited)) row = (None, row)
+rows clock (Ok (Finished e)) row = (None, row)
+rows clock (Ok (Passed t)) row = (stopped clock t.ran row, Some (going clock t.ran row))
+rows clock (Err why) row = (None, row)
 
 -- Pushing a record, if there is one, on a log with room for so many: whether it is lost, and the records then.
 abbrev pub noted : {T : Type 0} → ℕ → List T → Option T → Bool × List T
@@ -88,18 +88,14 @@ abbrev pub settled : ℕ → List Stretch → ℕ → Option Row → Bool × Lis
 settled room stretches clock row = noted room stretches (option_map (stretch clock) row)
 
 -- The answer of a call in a session: which records are lost, or its refusal.
-abbrev pub outcome : Answer → Lost → Result Turn Refusal
-outcome (Released clock) lost = Ok (Made lost)
-outcome (Waits task) lost = Ok (Made lost)
-outcome (Woken waited) lost = Ok (Made lost)
-outcome (Finished e) lost = Ok (Made lost)
-outcome (Passed t) lost = Ok (Made lost)
-outcome (Refused why) lost = Err why
+abbrev pub outcome : Result Answer Refusal → Lost → Result Turn Refusal
+outcome (Ok answer) lost = Ok (Made lost)
+outcome (Err why) lost = Err why
 
 -- Sessions whose logs have room for so many ends and so many stretches.
 module _ (end_room row_room : ℕ) where
   -- The records that a call with this answer loses, from the state after it.
-  abbrev pub lost : Books → Answer → State → Lost
+  abbrev pub lost : Books → Result Answer Refusal → State → Lost
   lost b answer after =
       record {
         end = (noted end_room b.ends (ended_by answer after)).0;
@@ -107,7 +103,7 @@ module _ (end_room row_room : ℕ) where
       }
 
   -- What the session holds after a call with this answer that left this state.
-  abbrev pub booked : Books → Answer → State → Books
+  abbrev pub booked : Books → Result Answer Refusal → State → Books
   booked b answer after =
       record {
         state = after;

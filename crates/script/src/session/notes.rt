@@ -1,10 +1,10 @@
 //! What a call gives to record.
-ghost use Rattle.std.specs.Prelude.{◌≡◌};
+ghost use Rattle.std.specs.Prelude.{◌≡◌, Ok};
 ghost use Rattle.record_log.specs.Records.{records, room};
-ghost use Rattle.script.specs.Sessions.{alike, noted, outcome, rows, stretch};
+ghost use Rattle.script.specs.Sessions.{alike, noted, rows, stretch};
 
-use crate::records::{Lost, Row, Stretch, Turn};
-use model::{Answer, Refusal};
+use crate::records::{Row, Stretch};
+use model::Answer;
 use record_log::Log;
 
 // Pushes a record, if there is one, and answers whether it is lost.
@@ -47,7 +47,7 @@ impl Row {
 
 // The row that a call with this answer stops, and the row that goes on, from the clock before it.
 pub(crate) fn turned(clock: u32, answer: Answer, row: Option<Row>) -> (Option<Stretch>, Option<Row>)
-    ensures value { result ≡ rows clock answer row }
+    ensures value { result ≡ rows clock (Ok answer) row }
 {
     let Answer::Passed(ticked) = answer else {
         return (None, row);
@@ -63,15 +63,5 @@ pub(crate) fn turned(clock: u32, answer: Answer, row: Option<Row>) -> (Option<St
         (None, row)
     } else {
         (Some(old.stretch(clock)), begins)
-    }
-}
-
-// The answer of a call in a session.
-pub(crate) fn told(answer: Answer, lost: Lost) -> Result<Turn, Refusal>
-    ensures value { result ≡ outcome answer lost }
-{
-    match answer {
-        Answer::Refused(refusal) => Err(refusal),
-        _ => Ok(Turn::Made(lost)),
     }
 }

@@ -1,5 +1,5 @@
 //! The steps of a session.
-ghost use Rattle.std.specs.Prelude.{◌≡◌, ◌<◌, length, None};
+ghost use Rattle.std.specs.Prelude.{◌≡◌, ◌<◌, length, None, Ok};
 ghost use Rattle.dispatch.specs.Runs.{Kept, of_rule, of_set, set_tasks, state};
 ghost use Rattle.record_log.specs.Records.{records, room};
 ghost use Rattle.model.specs.Machine.{totals};
@@ -9,7 +9,7 @@ ghost use Rattle.script.specs.Names.{Named};
 ghost use Rattle.script.specs.Sessions.{called, commanded, end_of, ended_by, settled};
 ghost use Rattle.script.specs.Views.{books};
 
-use super::notes::{note, told, turned};
+use super::notes::{note, turned};
 use super::{Closed, Session};
 use crate::command::Command;
 use crate::records::{Cause, EndRecord, Lost, Stretch, Turn};
@@ -52,8 +52,8 @@ impl<'s, R: OrderRule> Session<'s, R> {
 
     // The end that a call with this answer brought.
     fn ended_by(&self, answer: Answer) -> Option<EndRecord>
-        requires { Named (length (set_tasks self.now.run)) answer }
-        ensures value { result ≡ ended_by answer (state self.now.run) }
+        requires { Named (length (set_tasks self.now.run)) (Ok answer) }
+        ensures value { result ≡ ended_by (Ok answer) (state self.now.run) }
     {
         match answer {
             Answer::Finished(ended) => Some(self.end_of(ended.task, Cause::Finish)),
@@ -85,12 +85,12 @@ impl<'s, R: OrderRule> Session<'s, R> {
         ensures stretches { SameMemory stretches.old stretches.new }
     {
         let clock = self.run.clock();
-        let answer = self.run.call(call);
+        let answer = self.run.call(call)?;
         let end = note(ends, self.ended_by(answer));
         let (stopped, going) = turned(clock, answer, self.row);
         self.row = going;
         let row = note(stretches, stopped);
-        told(answer, Lost { end, row })
+        Ok(Turn::Made(Lost { end, row }))
     }
 
     /// Carries out a command in a run: makes a call and records what it brings, or says that the session is to be

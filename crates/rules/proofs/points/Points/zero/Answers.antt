@@ -14,4 +14,6 @@ invariant_of-result c =
     }
 
 pub returns : goal.returns
-returns c = record { value = refl; points = fun_ext (λ i. each_of_zeros (λ z. z ≡ pos 0) refl most_tasks i) }
+returns c =
+    let each = each_of_zeros (λ z. z ≡ pos 0) refl most_tasks in
+    record { each = each; points = fun_ext each }

@@ -8,6 +8,5 @@ pub ended_by-requires : goal.ended_by-requires
 ended_by-requires g c =
     let run = c.args.self.now.run in
     let rule = of_rule run in
-    named_as (set_tasks c.call-answer.new.self) (set_tasks run) (g.R.OrderRule.before rule) (state run) (g.R.OrderRule.points rule)
-    (g.R.OrderRule.laws rule) c.args.call c.call-answer.result (ap tasks_of c.call-answer.ensures.kept.0)
-    c.call-answer.ensures.answer
+    named_as (set_tasks c.call.new.self) (set_tasks run) (g.R.OrderRule.before rule) (state run) (g.R.OrderRule.points rule)
+    (g.R.OrderRule.laws rule) c.args.call _ (ap tasks_of c.in_ok-answer.ensures.kept.0) c.in_ok-answer.ensures.answer
