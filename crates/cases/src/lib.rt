@@ -6,4 +6,6 @@ mod order_rules;
 #[cfg(test)]
 mod runs;
 #[cfg(test)]
+mod sets;
+#[cfg(test)]
 mod tables;

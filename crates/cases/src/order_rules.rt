@@ -1,27 +1,10 @@
 //! Points and order under all rules and layers.
-use model::{Figures, JobId, Refusal};
+use crate::sets::pair;
+use model::JobId;
 use own_rule::HigherFirst;
 use rules::{Bottom, Figure, OrderRule, Weighted};
 use std::process::Abort;
 use std::test::Fail;
-use tasks::Table;
-
-fn figures(execution: u16, suspension: u16, deadline: u16, period: u16) -> Figures {
-    Figures {
-        execution,
-        suspension,
-        deadline,
-        period,
-    }
-}
-
-// Two tasks: 1, 2, 5, 5 and 1, 3, 7, 7.
-fn pair() -> Result<Table, Refusal> {
-    let mut table = Table::new();
-    table.add(figures(1, 2, 5, 5))?;
-    table.add(figures(1, 3, 7, 7))?;
-    Ok(table)
-}
 
 fn check_points<R: OrderRule>(rt: &impl Abort, rule: &R, first: i32, second: i32) {
     assert_eq!(rt; rule.point(0), first);
@@ -48,8 +31,18 @@ fn layers_stack_in_both_orders(rt: HostRuntime) -> Result<(), Fail> {
     let s = Weighted::over(&table, Figure::Suspension, -1, &deadline)?;
     check_points(&rt, &c, 8, 10);
     check_points(&rt, &s, 3, 4);
-    check_points(&rt, &Weighted::over(&table, Figure::Suspension, -1, &c)?, 6, 7);
-    check_points(&rt, &Weighted::over(&table, Figure::Execution, 3, &s)?, 6, 7);
+    check_points(
+        &rt,
+        &Weighted::over(&table, Figure::Suspension, -1, &c)?,
+        6,
+        7,
+    );
+    check_points(
+        &rt,
+        &Weighted::over(&table, Figure::Execution, 3, &s)?,
+        6,
+        7,
+    );
     Ok(())
 }
 

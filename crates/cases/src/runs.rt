@@ -1,28 +1,12 @@
 //! Runs: every refusal, the edges, and a rule that is really asked.
+use crate::sets::{figures, pair};
 use admission::{Accepted, admit};
 use dispatch::Checked;
-use model::{Ended, Figures, Refusal, Ticked};
+use model::{Ended, Refusal, Ticked};
 use own_rule::HigherFirst;
 use rules::{Bottom, OrderRule};
 use std::test::Fail;
 use tasks::Table;
-
-fn figures(execution: u16, suspension: u16, deadline: u16, period: u16) -> Figures {
-    Figures {
-        execution,
-        suspension,
-        deadline,
-        period,
-    }
-}
-
-// Two tasks: 1, 2, 5, 5 and 1, 3, 7, 7.
-fn pair() -> Result<Table, Refusal> {
-    let mut table = Table::new();
-    table.add(figures(1, 2, 5, 5))?;
-    table.add(figures(1, 3, 7, 7))?;
-    Ok(table)
-}
 
 fn ticked(ran: Option<u32>, ended: bool, forced: u32) -> Result<Ticked, Refusal> {
     Ok(Ticked { ran, ended, forced })

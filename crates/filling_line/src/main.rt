@@ -66,5 +66,11 @@ fn main(rt: HostRuntime) -> io::Result<()> {
     for row in rework_rows().iter() {
         let _ = enter(&rt, &mut bench, row)?;
     }
-    print_verdict(&rt, "deadline", &bench, &Bottom::deadline(&bench), &mut place)
+    print_verdict(
+        &rt,
+        "deadline",
+        &bench,
+        &Bottom::deadline(&bench),
+        &mut place,
+    )
 }
