@@ -41,7 +41,7 @@ fn print_table(rt: &impl Print, table: &Table, names: &[&str]) -> io::Result<()>
     Ok(())
 }
 
-fn main(rt: HostRuntime) -> io::Result<()> {
+fn main(rt: HostRuntime) -> anyhow::Result<()> {
     let mut table = Table::new();
     let mut names = Vec::new(rt.alloc());
     println!(rt; "Entering the tasks of a filling line; a tick is a millisecond.")?;
@@ -66,11 +66,7 @@ fn main(rt: HostRuntime) -> io::Result<()> {
     for row in rework_rows().iter() {
         let _ = enter(&rt, &mut bench, row)?;
     }
-    print_verdict(
-        &rt,
-        "deadline",
-        &bench,
-        &Bottom::deadline(&bench),
-        &mut place,
-    )
+    let rule = Bottom::deadline(&bench);
+    print_verdict(&rt, "deadline", &bench, &rule, &mut place)?;
+    Ok(())
 }

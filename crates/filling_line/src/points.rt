@@ -13,15 +13,14 @@ fn print_row<R: OrderRule>(rt: &impl Print, label: &str, rule: &R, count: u32) -
 }
 
 /// Prints a line for each rule.
-pub fn print_points(rt: &impl Print, table: &Table) -> io::Result<()> {
+pub fn print_points(rt: &impl Print, table: &Table) -> anyhow::Result<()> {
     let count = table.count() as u32;
     let deadline = Bottom::deadline(table);
     println!(rt; "Points of the tasks:")?;
     print_row(rt, "deadline", &deadline, count)?;
     print_row(rt, "arrival", &Bottom::arrival(), count)?;
     print_row(rt, "level", &Bottom::level(table), count)?;
-    match Weighted::over(table, Figure::Suspension, 1, &deadline) {
-        Ok(patient) => print_row(rt, "deadline, S-weight 1", &patient, count),
-        Err(refusal) => println!(rt; "  {refusal}"),
-    }
+    let patient = Weighted::over(table, Figure::Suspension, 1, &deadline)?;
+    print_row(rt, "deadline, S-weight 1", &patient, count)?;
+    Ok(())
 }

@@ -1,9 +1,9 @@
 //! A shift: the admitted line is dispatched, call by call and in one go.
 use admission::Accepted;
 use dispatch::{Checked, Entry, Run, hold};
-use model::{Answer, Call, Refusal, Ticked};
+use model::{Answer, Call, Refusal};
 use rules::OrderRule;
-use std::io;
+use std::{fmt, io};
 
 // The camera takes a picture, and other tasks run while it waits for it.
 fn picture() -> [Call; 22] {
@@ -33,41 +33,48 @@ fn picture() -> [Call; 22] {
     ]
 }
 
-fn print_call(rt: &impl Print, clock: u32, call: Call) -> io::Result<()> {
-    match call {
-        Call::Release(task) => print!(rt; "  {clock:>3} release {task}:"),
-        Call::Wait => print!(rt; "  {clock:>3} wait:"),
-        Call::Wake(task) => print!(rt; "  {clock:>3} wake {task}:"),
-        Call::Finish => print!(rt; "  {clock:>3} finish:"),
-        Call::Tick => print!(rt; "  {clock:>3} tick:"),
-    }
-}
+/// A call, by its name.
+#[derive(Clone, Copy)]
+struct Named(Call);
 
-fn print_tick(rt: &impl Print, tick: Ticked) -> io::Result<()> {
-    match tick.ran {
-        Some(task) if tick.ended => print!(rt; " task {task} ran and ended")?,
-        Some(task) => print!(rt; " task {task} ran")?,
-        None => print!(rt; " idle")?,
-    }
-    let forced = tick.forced;
-    if forced != 0 {
-        print!(rt; ", forced {forced:b}")?;
-    }
-    println!(rt; "")
-}
-
-fn print_answer(rt: &impl Print, answer: Result<Answer, Refusal>) -> io::Result<()> {
-    match answer {
-        Ok(Answer::Released(clock)) => println!(rt; " a job is open since {clock}"),
-        Ok(Answer::Waits(task)) => println!(rt; " task {task} waits"),
-        Ok(Answer::Woken(waited)) => println!(rt; " it has waited {waited}"),
-        Ok(Answer::Finished(end)) => {
-            let task = end.task;
-            let given = end.given;
-            println!(rt; " task {task} ended with {given} ticks given")
+impl fmt::Display for Named {
+    fn fmt<W: fmt::Write>(&self, f: &mut fmt::Formatter<W>) -> fmt::Result {
+        match self.0 {
+            Call::Release(task) => write!(f, "release {task}"),
+            Call::Wait => write!(f, "wait"),
+            Call::Wake(task) => write!(f, "wake {task}"),
+            Call::Finish => write!(f, "finish"),
+            Call::Tick => write!(f, "tick"),
         }
-        Ok(Answer::Passed(tick)) => print_tick(rt, tick),
-        Err(refusal) => println!(rt; " {refusal}"),
+    }
+}
+
+/// What a call answered, in words.
+#[derive(Clone, Copy)]
+struct Told(Result<Answer, Refusal>);
+
+impl fmt::Display for Told {
+    fn fmt<W: fmt::Write>(&self, f: &mut fmt::Formatter<W>) -> fmt::Result {
+        match self.0 {
+            Ok(Answer::Released(clock)) => write!(f, "a job is open since {clock}"),
+            Ok(Answer::Waits(task)) => write!(f, "task {task} waits"),
+            Ok(Answer::Woken(waited)) => write!(f, "it has waited {waited}"),
+            Ok(Answer::Finished(end)) => {
+                write!(f, "task {} ended with {} ticks given", end.task, end.given)
+            }
+            Ok(Answer::Passed(tick)) => {
+                match tick.ran {
+                    Some(task) if tick.ended => write!(f, "task {task} ran and ended")?,
+                    Some(task) => write!(f, "task {task} ran")?,
+                    None => write!(f, "idle")?,
+                }
+                match tick.forced {
+                    0 => Ok(()),
+                    forced => write!(f, ", forced {forced:b}"),
+                }
+            }
+            Err(refusal) => write!(f, "{refusal}"),
+        }
     }
 }
 
@@ -102,9 +109,9 @@ pub fn print_run<'s, R: OrderRule>(
     };
     let mut run = checked.start();
     for call in picture() {
-        print_call(rt, run.clock(), call)?;
+        let clock = run.clock();
         let answer = run.call(call);
-        print_answer(rt, answer)?;
+        println!(rt; "  {clock:>3} {}: {}", Named(call), Told(answer))?;
         if let Some(task) = ended(answer) {
             print_distance(rt, &run, task)?;
         }
@@ -138,8 +145,7 @@ pub fn print_held<'s, R: OrderRule>(
     };
     for entry in entries {
         if let Some(answer) = entry.answer {
-            print!(rt; "  answer:")?;
-            print_answer(rt, answer)?;
+            println!(rt; "  answer: {}", Told(answer))?;
         }
     }
     let clock = totals.clock;
