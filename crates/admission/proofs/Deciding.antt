@@ -1,5 +1,5 @@
 -- There is a right verdict: rounds of figures that rise from 0 find the answer.
-use Rattle.std.proofs.Common.{◌≡◌, ℕ, zero, suc, ◌+◌, ◌-◌, ◌<◌, ◌≤◌, ◌⊎◌, List, [], map, length, get_or, take, ℤ, Some, None, Option, refl, inl, inr, ⊎_elim, le_refl, arith}
+use Rattle.std.proofs.Common.{◌≡◌, ℕ, zero, suc, ◌+◌, ◌-◌, ◌<◌, ◌≤◌, ◌⊎◌, List, [], map, length, get_or, ℤ, Some, None, Option, refl, inl, inr, ⊎_elim, le_refl, arith}
 use Rattle.std.proofs.lemmas.List.FromFn.{length-map-range_with_len, get_or-map-range_with_len}
 use Rattle.std.proofs.lemmas.Bool.{cases_eq, cases_lt}
 use Rattle.std.specs.List.{range_with_len}
@@ -63,8 +63,8 @@ module _ (tasks : List Figures) (points : List ℤ) where
   abbrev each : (ℕ → ℕ) → List ℕ
   each f = map f (range_with_len 0 (length tasks))
 
-  room : (f : ℕ → ℕ) → length tasks ≤ length (each f)
-  room f = rw length-map-range_with_len (le_refl _)
+  room : (f : ℕ → ℕ) → length (each f) ≡ length tasks
+  room f = length-map-range_with_len f 0 (length tasks)
 
   -- A round: for each task its smallest total under the figures, and the first offset of that.
   module _ (figures : List ℕ) where
@@ -104,15 +104,15 @@ module _ (tasks : List Figures) (points : List ℤ) where
       λ fit. record { smallest = smallest_totals figures fit; in_time = λ k h. omega (arith, in_time k h) } in
       ⊎_elim
       (λ (same : Same figures next n). (
-        Some (take n next, take n firsts),
-        λ fit c h. admits_unmoved tasks points figures next firsts n refl c (round fit) fit (room _) (room _) same,
+        Some (next, firsts),
+        λ fit c h. admits_unmoved tasks points figures next firsts c (round fit) fit (room _) (room _) same,
       ))
       (λ ((k, h, moved) : (k : ℕ) × (k < n) × (get_or next k 0 ≡ get_or figures k 0 → ⊥)).
       let (a, right) = answer fuel next in (
         a,
         λ fit c enough.
-            let falls = distance_falls tasks points figures next firsts n refl c (round fit) (λ same. moved (same k h)) in
-            right fit (rising_round tasks points figures next firsts n refl c (round fit)) (omega arith),
+            let falls = distance_falls tasks points figures next firsts c (round fit) (λ same. moved (same k h)) in
+            right fit (rising_round tasks points figures next firsts c (round fit)) (omega arith),
       ))
       (all_or_some _ _ (λ k. cases_eq (get_or next k 0) (get_or figures k 0)) n))
       (λ ((k, h, passed) : (k : ℕ) × (k < n) × (late k ≤ get_or next k 0)). (

@@ -1,6 +1,7 @@
 -- Rounds of figures that rise until none moves.
-use Rattle.std.proofs.Common.{◌≡◌, ℕ, zero, suc, ◌+◌, ◌-◌, ◌<◌, ◌≤◌, List, length, get_or, take, ℤ, ◌∙◌, subst, ⊎_elim, arith}
-use Rattle.std.proofs.lemmas.List.{get_or-take, length-take-le}
+use Rattle.std.proofs.Common.{◌≡◌, ℕ, zero, suc, ◌+◌, ◌-◌, ◌<◌, ◌≤◌, List, [], ◌∷◌, ◌++◌, length, get_or, ℤ, ⊎_elim, arith, below_more}
+use Rattle.std.proofs.lemmas.List.{get_or_push}
+use Rattle.std.proofs.Math.ListN.{get_or-append}
 use Rattle.std.proofs.lemmas.Bool.{cases_eq, cases_lt}
 use Rattle.model.specs.Figures.{AllFit, no_task}
 use Rattle.model.specs.Sums.{sum_to}
@@ -58,43 +59,44 @@ module _ (tasks : List Figures) (points : List ℤ) where
   up : (figures : List ℕ) (k b q : ℕ) → k < length tasks → Rising figures → SmallestTotal tasks points figures k b q → get_or figures k 0 ≤ b
   up figures k b q h c s = omega (arith, c.rise k h q s.inside, s.attains)
 
-  module _ (figures bounds offsets : List ℕ) (many : ℕ) (all : many ≡ length tasks) (c : Rising figures)
-      (found : Round figures bounds offsets many) where
-    whole : Round figures bounds offsets (length tasks)
-    whole = subst (Round figures bounds offsets) all found
+  pub round_more : (figures bounds offsets : List ℕ) (many b q : ℕ) → length bounds ≡ many → length offsets ≡ many
+      → Round figures bounds offsets many → SmallestTotal tasks points figures many b q → b ≤ (get_or tasks many no_task).deadline
+      → Round figures (bounds ++ b ∷ []) (offsets ++ q ∷ []) (many + 1)
+  round_more figures bounds offsets many b q long as_long r total in_time =
+      let here = get_or_push bounds b 0 many long in
+      let there = get_or_push offsets q 0 many as_long in
+      record {
+        smallest = below_more (λ k. SmallestTotal tasks points figures k (get_or (bounds ++ b ∷ []) k 0) (get_or (offsets ++ q ∷ []) k 0)) many
+            (λ k h. rw (get_or-append bounds (b ∷ []) 0 k (omega arith), get_or-append offsets (q ∷ []) 0 k (omega arith)) (r.smallest k h))
+            (rw (here, there) total);
+        in_time = below_more (λ k. get_or (bounds ++ b ∷ []) k 0 ≤ (get_or tasks k no_task).deadline) many
+            (λ k h. rw (get_or-append bounds (b ∷ []) 0 k (omega arith)) (r.in_time k h)) (rw here in_time);
+      }
+
+  module _ (figures bounds offsets : List ℕ) (c : Rising figures) (r : Round figures bounds offsets (length tasks)) where
+    up_all : (k : ℕ) → k < length tasks → get_or figures k 0 ≤ get_or bounds k 0
+    up_all k h = up figures k _ _ h c (r.smallest k h)
 
     pub rising_round : Rising bounds
     rising_round =
-        let r = whole in
         record {
           under = under_rise tasks points figures bounds c.under (λ k h. (r.smallest k h).smallest);
-          rise = λ k h q inside.
-              omega (
-                arith,
-                (r.smallest k h).smallest q inside,
-                total_mono tasks points figures bounds k q (λ i l. up figures i _ _ l c (r.smallest i l)),
-              );
+          rise = λ k h q inside. omega (arith, (r.smallest k h).smallest q inside, total_mono tasks points figures bounds k q up_all);
           cut = λ k h. omega (arith, r.in_time k h);
         }
 
     pub distance_falls : (Same figures bounds (length tasks) → ⊥) → distance tasks bounds < distance tasks figures
     distance_falls differ =
-        let rises = sum_grows figures bounds (length tasks) (λ k h. up figures k _ _ h c (whole.smallest k h)) differ in
+        let rises = sum_grows figures bounds (length tasks) up_all differ in
         omega (arith, sum_to_mono (length tasks) (λ k. get_or bounds k 0) (λ k. (get_or tasks k no_task).deadline + 1) rising_round.cut)
 
-    pub admits_unmoved : AllFit tasks → length tasks ≤ length bounds → length tasks ≤ length offsets → Same figures bounds (length tasks)
-        → Admits tasks points (take (length tasks) bounds) (take (length tasks) offsets)
-    admits_unmoved fit hb ho m =
-        let n = length tasks in
-        let r = whole in
-        let bound : (k : ℕ) → k < n → get_or (take n bounds) k 0 ≡ get_or bounds k 0 = λ k h. get_or-take n bounds k 0 h in
-        let same : (k : ℕ) → k < n → get_or (take n bounds) k 0 ≡ get_or figures k 0 = λ k h. bound k h ∙ m k h in
-        let first : (k : ℕ) → k < n → FirstOffset tasks points (take n bounds) k (get_or (take n offsets) k 0) =
-        λ k h. first_offset tasks points figures (take n bounds) k _ same (rw (bound k h, get_or-take n offsets k 0 h) (r.smallest k h)) in
+    pub admits_unmoved : AllFit tasks → length bounds ≡ length tasks → length offsets ≡ length tasks → Same figures bounds (length tasks) → Admits tasks points bounds offsets
+    admits_unmoved fit long as_long m =
+        let first : (k : ℕ) → k < length tasks → FirstOffset tasks points bounds k (get_or offsets k 0) =
+        λ k h. first_offset tasks points figures bounds k _ m (r.smallest k h) in
         record {
-          smallest = smallest_unmoved tasks points (take n bounds) (λ k. get_or (take n offsets) k 0) (λ k h. (fit k h).0)
-              (length-take-le n bounds hb) (λ others w k h. omega (arith, same k h, c.under others w k h)) first
-              (λ k h. rw (bound k h) (r.in_time k h));
-          one_each = length-take-le n offsets ho;
+          smallest = smallest_unmoved tasks points bounds (λ k. get_or offsets k 0) (λ k h. (fit k h).0) long
+              (λ others w k h. omega (arith, m k h, c.under others w k h)) first r.in_time;
+          one_each = as_long;
           first = first;
         }

@@ -1,4 +1,5 @@
 mod Best
+mod Filling
 mod Deciding
 mod Iteration
 pub mod Kept

@@ -1,6 +1,6 @@
 -- Tasks side by side with their points and with figures for their bounds.
 use Rattle.std.specs.Prelude.{◌≡◌, ℕ, ◌+◌, ◌<◌, ◌≤◌, min, List, length, ℤ, slice_index, slice_index_or}
-use Rattle.model.specs.Figures.{Tasks, no_task, most_tasks}
+use Rattle.model.specs.Figures.{Tasks, no_task}
 use Rattle.model.specs.declared.figures.Figures.{Figures}
 
 -- Tasks that fit, one point for each, and a figure for each.
@@ -11,7 +11,7 @@ pub record Rows (tasks : List Figures) (points : List ℤ) (figures : List ℕ) 
 
 -- The figures of the first round: C + S of each task, cut at D + 1.
 pub record Start (tasks : List Figures) (figures : List ℕ) : Type 0 where
-  pub room : length figures ≡ most_tasks
+  pub one_each : length figures ≡ length tasks
   pub value : (k : ℕ) → k < length tasks
       → slice_index figures k ≡ min ((slice_index_or tasks k no_task).execution + (slice_index_or tasks k no_task).suspension) ((slice_index_or tasks k no_task).deadline + 1)
 

@@ -8,6 +8,6 @@ mod search;
 mod total;
 mod verdict;
 
-pub use accepted::Accepted;
+pub use accepted::{Accepted, Admitted};
 pub use law::verdicts_exist;
 pub use verdict::admit;

@@ -1,58 +1,51 @@
 //! Rounds that rise from below to the smallest bounds.
-ghost use Rattle.std.specs.Prelude.{◌≡◌, ◌≤◌, true, false, length, take, MatchOption};
+ghost use Rattle.std.specs.Prelude.{◌≡◌, ◌≤◌, true, false, map, length, MatchOption};
 ghost use Rattle.model.specs.Figures.{Tasks, most_tasks};
 ghost use Rattle.model.specs.Verdict.{Admits, Refuses};
 ghost use Rattle.admission.specs.Rows.{Rows, Same, Start};
 
 use crate::search::smallest_total;
 use crate::total::{alone, first_late};
+use arrayvec::ArrayVec;
 use model::Figures;
 use tasks::CAPACITY;
 
-/// A bound and an offset for each task, at the task's place.
-#[derive(Drop)]
-pub(crate) struct Found {
-    pub(crate) bounds: [u16; CAPACITY],
-    pub(crate) offsets: [u16; CAPACITY],
-}
-
 /// The figures of the first round: C + S, cut at D + 1.
-pub(crate) fn first_figures(tasks: &[Figures]) -> [u32; CAPACITY]
+pub(crate) fn first_figures(tasks: &[Figures]) -> ArrayVec<u32, CAPACITY>
     requires { Tasks tasks.now }
-    ensures start { Start tasks.now result }
+    ensures start { Start tasks.now result.items }
 {
-    let mut figures = [0; CAPACITY];
-    for k in 0..tasks.len() {
-        figures[k] = alone(tasks[k]).min(first_late(tasks[k]));
+    let mut figures = ArrayVec::new();
+    for task in tasks {
+        figures.push(alone(*task).min(first_late(*task)));
     }
     figures
 }
 
-/// The same numbers in wider places.
-pub(crate) fn widened(bounds: &[u16; CAPACITY]) -> [u32; CAPACITY]
-    ensures value { result ≡ bounds.now }
+/// The bounds that a round has found, as figures for the next round.
+fn widened(found: &[(u16, u16)]) -> ArrayVec<u32, CAPACITY>
+    requires { length found.now ≤ most_tasks }
+    ensures value { result.items ≡ map (λ p. p.0) found.now }
 {
-    let mut figures = [0; CAPACITY];
-    for k in 0..CAPACITY {
-        figures[k] = u32::from(bounds[k]);
+    let mut figures = ArrayVec::new();
+    for (bound, _) in found {
+        figures.push(u32::from(*bound));
     }
     figures
 }
 
-/// Whether the first bounds are the figures that they were found under.
-fn nothing_moved(figures: &[u32; CAPACITY], bounds: &[u16; CAPACITY], count: usize) -> bool
-    requires { count ≤ most_tasks }
+/// Whether the bounds that a round has found are the figures that they were found under.
+fn nothing_moved(figures: &[u32], found: &[(u16, u16)]) -> bool
+    requires { length found.now ≤ length figures.now }
     ensures value { elim result [
-      | true ↦ Same figures.now bounds.now count
-      | false ↦ (Same figures.now bounds.now count → ⊥)
+      | true ↦ Same figures.now (map (λ p. p.0) found.now) (length found.now)
+      | false ↦ (Same figures.now (map (λ p. p.0) found.now) (length found.now) → ⊥)
     ] }
 {
-    for k in 0..count {
-        if u32::from(bounds[k]) != figures[k] {
-            return false;
-        }
-    }
-    true
+    figures
+        .iter()
+        .zip(found)
+        .all(|(figure, (bound, _))| *figure == u32::from(*bound))
 }
 
 /// The smallest bounds with their offsets, or `None` where no bounds hold. In every round each task's figure becomes
@@ -61,32 +54,25 @@ fn nothing_moved(figures: &[u32; CAPACITY], bounds: &[u16; CAPACITY], count: usi
 pub(crate) fn smallest_bounds(
     tasks: &[Figures],
     points: &[i32],
-    start: [u32; CAPACITY],
-) -> Option<Found>
-    requires rows { Rows tasks.now points.now start }
-    requires start { Start tasks.now start }
+    start: ArrayVec<u32, CAPACITY>,
+) -> Option<ArrayVec<(u16, u16), CAPACITY>>
+    requires rows { Rows tasks.now points.now start.items }
+    requires start { Start tasks.now start.items }
     ensures answer { MatchOption result (Refuses tasks.now points.now)
-        (λ f. Admits tasks.now points.now (take (length tasks.now) f.bounds)
-        (take (length tasks.now) f.offsets)) }
+        (λ f. Admits tasks.now points.now (map (λ p. p.0) f.items) (map (λ p. p.1) f.items)) }
 {
     let mut figures = start;
-    let mut bounds = [0; CAPACITY];
-    let mut offsets = [0; CAPACITY];
-    let late = 'rounds: loop {
-        for k in 0..tasks.len() {
-            let Some((bound, offset)) = smallest_total(tasks, points, &figures, k) else {
-                break 'rounds true;
+    'rounds: loop {
+        let mut found = ArrayVec::new();
+        for own in 0..tasks.len() {
+            let Some(least) = smallest_total(tasks, points, &figures, own) else {
+                break 'rounds None;
             };
-            bounds[k] = bound;
-            offsets[k] = offset;
+            found.push(least);
         }
-        if nothing_moved(&figures, &bounds, tasks.len()) {
-            break 'rounds false;
+        if nothing_moved(&figures, &found) {
+            break 'rounds Some(found);
         }
-        figures = widened(&bounds);
-    };
-    if late {
-        return None;
+        figures = widened(&found);
     }
-    Some(Found { bounds, offsets })
 }

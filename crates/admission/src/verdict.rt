@@ -1,5 +1,5 @@
 //! The test.
-ghost use Rattle.std.specs.Prelude.{◌≡◌, ◌≤◌, length, take};
+ghost use Rattle.std.specs.Prelude.{◌≡◌, ◌≤◌, length};
 ghost use Rattle.model.specs.Figures.{most_tasks};
 ghost use Rattle.model.specs.Verdict.{first_points};
 ghost use Rattle.tasks.specs.Listed.{listed};
@@ -7,19 +7,20 @@ ghost use Rattle.admission.specs.Tested.{Tested};
 
 use crate::Accepted;
 use crate::rounds::{first_figures, smallest_bounds};
+use arrayvec::ArrayVec;
 use model::Refusal;
 use rules::OrderRule;
 use tasks::{CAPACITY, Table};
 
 /// The points that a rule gives to the first tasks.
-fn points_under<R: OrderRule>(rule: &R, count: usize) -> [i32; CAPACITY]
+fn points_under<R: OrderRule>(rule: &R, count: usize) -> ArrayVec<i32, CAPACITY>
     requires { count ≤ most_tasks }
-    ensures room { length result ≡ most_tasks }
-    ensures value { take count result ≡ first_points (R.OrderRule.points rule.now) count }
+    ensures one_each { length result.items ≡ count }
+    ensures value { result.items ≡ first_points (R.OrderRule.points rule.now) count }
 {
-    let mut points = [0; CAPACITY];
+    let mut points = ArrayVec::new();
     for task in 0..count {
-        points[task] = rule.point(task as u32);
+        points.push(rule.point(task as u32));
     }
     points
 }
@@ -34,9 +35,7 @@ pub fn admit<R: OrderRule>(table: &Table, rule: &R, place: &mut Accepted) -> Res
 {
     let tasks = table.as_slice();
     let points = points_under(rule, tasks.len());
-    let Some(found) = smallest_bounds(tasks, &points[0..tasks.len()], first_figures(tasks)) else {
-        return Err(Refusal::NoWarrant);
-    };
-    *place = Accepted::with(tasks, points, found);
+    let found = smallest_bounds(tasks, &points, first_figures(tasks)).ok_or(Refusal::NoWarrant)?;
+    *place = Accepted::with(tasks, &points, &found);
     Ok(())
 }

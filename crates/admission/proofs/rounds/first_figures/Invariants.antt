@@ -2,7 +2,7 @@ use Rattle.std.proofs.Common.{◌≡◌, ℕ, ◌+◌, ◌<◌, min, length, get
 use Rattle.model.specs.Figures.{no_task}
 use Rattle.admission.proofs.rounds.first_figures.Given as goal
 
-abbrev pub invariant-loop-k : goal.invariant-loop-k
-invariant-loop-k l =
-    (length l.figures ≡ 32) × ((i : ℕ) → i < l.k → get_or l.figures i 0
+abbrev pub invariant-loop-task : goal.invariant-loop-task
+invariant-loop-task l =
+    (length l.figures.items ≡ l.task-index) × ((i : ℕ) → i < l.task-index → get_or l.figures.items i 0
     ≡ min ((get_or l.tasks i no_task).execution + (get_or l.tasks i no_task).suspension) ((get_or l.tasks i no_task).deadline + 1))

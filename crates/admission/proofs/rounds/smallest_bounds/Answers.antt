@@ -1,51 +1,58 @@
-use Rattle.std.proofs.Common.{◌<◌, length, sym, refl, ap, ◌∙◌, subst, arith}
-use Rattle.std.proofs.lemmas.Bool.{both_ways}
+use Rattle.std.proofs.Common.{◌≡◌, ◌+◌, length, ap, ◌∙◌, arith}
+use Rattle.std.proofs.lemmas.List.{length-map, length_push, map_push}
 use Rattle.model.proofs.Rounds.{refuses_late}
-use Rattle.admission.proofs.Iteration.{distance, Rising, rising_start, rising_round, distance_falls, admits_unmoved}
+use Rattle.admission.proofs.Iteration.{rising_start, rising_round, round_more, distance_falls, admits_unmoved}
 use Rattle.admission.proofs.rounds.smallest_bounds.Goals as goal
-use Rattle.admission.proofs.rounds.smallest_bounds.Goals.{then-loop-k-test+in_default, else-loop-k-test+then-nothing_moved}
 
 pub rounds-init : goal.rounds-init
-rounds-init c =
-    (c.requires.start.room, refl, refl, rising_start c.args.tasks.now c.args.points.now c.args.start c.requires.start)
+rounds-init c = (c.requires.start.one_each, rising_start c.args.tasks.now c.args.points.now c.args.start.items c.requires.start)
+
+pub loop-own-preserved : goal.loop-own-preserved
+loop-own-preserved c =
+    let (long, found) = c.loop-own.invariant in
+    let items = c.loop-own.found.items in
+    let (least, in_time) = rw c.deref.ensures.0 at c.in-Some.ensures.answer in
+    rw (c.push.ensures.items, map_push, map_push) (
+      length_push items c.in-Some.least ∙ ap (λ n. n + 1) long,
+      round_more c.args.tasks.now c.args.points.now c.rounds.figures.items _ _ c.loop-own.own c.in-Some.least.0 c.in-Some.least.1
+          (length-map items (λ p. p.0) ∙ long) (length-map items (λ p. p.1) ∙ long) found least in_time,
+    )
 
 pub rounds-smaller : goal.rounds-smaller
 rounds-smaller c =
-    let l = c.loop-k in
     let tasks = c.args.tasks.now in
-    let figures = c.rounds.figures in
-    subst (λ f. distance tasks f < distance tasks figures) (sym c.widened-figures.ensures.value)
-    (distance_falls tasks c.args.points.now figures l.bounds l.offsets l.k (omega arith) c.rounds.invariant.3 l.invariant.2
-    c.if-nothing_moved.ensures.value)
+    let points = c.args.points.now in
+    let figures = c.rounds.figures.items in
+    let (long, found) = c.loop-own.invariant in
+    let all : c.loop-own.own ≡ length tasks = omega arith in
+    let moved = rw (c.deref-in-rounds.ensures.0, c.deref-in-rounds-2.ensures.0, long, all) at c.if-nothing_moved.ensures.value in
+    rw (c.widened-figures.ensures.value, c.deref-in-rounds-3.ensures.0)
+    (distance_falls tasks points figures _ _ c.rounds.invariant.1 (rw all at found) moved)
 
 pub rounds-preserved : goal.rounds-preserved
 rounds-preserved c =
-    let l = c.loop-k in
-    let tasks = c.args.tasks.now in
-    let points = c.args.points.now in
-    let e = c.widened-figures.ensures.value in
-    let rising =
-    rising_round tasks points c.rounds.figures l.bounds l.offsets l.k (omega arith) c.rounds.invariant.3 l.invariant.2 in
-    (ap length e ∙ l.invariant.0, l.invariant.0, l.invariant.1, subst (Rising tasks points) (sym e) rising)
+    let (long, found) = c.loop-own.invariant in
+    let all : c.loop-own.own ≡ length c.args.tasks.now = omega arith in
+    rw (c.widened-figures.ensures.value, c.deref-in-rounds-3.ensures.0) (
+      length-map c.loop-own.found.items (λ p. p.0) ∙ (long ∙ all),
+      rising_round c.args.tasks.now c.args.points.now c.rounds.figures.items _ _ c.rounds.invariant.1 (rw all at found),
+    )
 
-pub returns-then-late : goal.returns-then-late
-returns-then-late c =
-    elim c.loop-k-test.branch [
-      | then-loop-k-test+in_default w ↦ record {
-        answer = refuses_late c.args.tasks.now c.args.points.now c.rounds.figures c.loop-k.k c.rounds.invariant.3.under
-            w.loop-k-test.true w.in_default.ensures.answer;
-      }
-      | else-loop-k-test+then-nothing_moved w ↦ absurd (both_ways _ w.late-is c.if-late.true)
-    ]
+pub returns-in_default : goal.returns-in_default
+returns-in_default c =
+    let late = rw c.deref.ensures.0 at c.in_default.ensures.answer in
+    record {
+      answer = refuses_late c.args.tasks.now c.args.points.now c.rounds.figures.items c.loop-own.own c.rounds.invariant.1.under
+          c.loop-own-test.true late;
+    }
 
-pub returns : goal.returns
-returns c =
-    let l = c.loop-k in
-    elim c.loop-k-test.branch [
-      | then-loop-k-test+in_default w ↦ absurd (both_ways _ c.if-late.false w.late-is)
-      | else-loop-k-test+then-nothing_moved w ↦ record {
-        answer = admits_unmoved c.args.tasks.now c.args.points.now c.rounds.figures l.bounds l.offsets l.k
-            (omega arith) c.rounds.invariant.3 l.invariant.2 c.requires.rows.fit.1 (omega arith) (omega arith)
-            w.if-nothing_moved.ensures.value;
-      }
-    ]
+pub returns-then-nothing_moved : goal.returns-then-nothing_moved
+returns-then-nothing_moved c =
+    let (long, found) = c.loop-own.invariant in
+    let items = c.loop-own.found.items in
+    let all : c.loop-own.own ≡ length c.args.tasks.now = omega arith in
+    let same = rw (c.deref-in-rounds.ensures.0, c.deref-in-rounds-2.ensures.0, long, all) at c.if-nothing_moved.ensures.value in
+    record {
+      answer = admits_unmoved c.args.tasks.now c.args.points.now c.rounds.figures.items _ _ c.rounds.invariant.1 (rw all at found)
+          c.requires.rows.fit.1 (length-map items (λ p. p.0) ∙ (long ∙ all)) (length-map items (λ p. p.1) ∙ (long ∙ all)) same;
+    }

@@ -1,17 +1,14 @@
-use Rattle.std.proofs.Common.{◌≡◌, length}
-use Rattle.model.specs.Figures.{most_tasks}
+use Rattle.std.proofs.Common.{◌≡◌, length, map}
 use Rattle.admission.proofs.Iteration.{distance, Rising, Round}
 use Rattle.admission.proofs.rounds.smallest_bounds.Given as goal
 
 abbrev pub invariant-rounds : goal.invariant-rounds
-invariant-rounds l =
-    (length l.figures ≡ most_tasks) × (length l.bounds ≡ most_tasks) × (length l.offsets ≡ most_tasks)
-    × Rising l.tasks l.points l.figures
+invariant-rounds l = (length l.figures.items ≡ length l.tasks) × Rising l.tasks l.points l.figures.items
 
 abbrev pub decreases-rounds : goal.decreases-rounds
-decreases-rounds l = distance l.tasks l.figures
+decreases-rounds l = distance l.tasks l.figures.items
 
-abbrev pub invariant-loop-k : goal.invariant-loop-k
-invariant-loop-k l =
-    (length l.bounds ≡ most_tasks) × (length l.offsets ≡ most_tasks)
-    × Round l.tasks l.points l.figures l.bounds l.offsets l.k
+abbrev pub invariant-loop-own : goal.invariant-loop-own
+invariant-loop-own l =
+    (length l.found.items ≡ l.own)
+    × Round l.tasks l.points l.figures.items (map (λ p. p.0) l.found.items) (map (λ p. p.1) l.found.items) l.own

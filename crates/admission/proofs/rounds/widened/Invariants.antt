@@ -1,5 +1,5 @@
-use Rattle.std.proofs.Common.{◌≡◌, ℕ, ◌<◌, length, get_or}
+use Rattle.std.proofs.Common.{◌≡◌, map, take}
 use Rattle.admission.proofs.rounds.widened.Given as goal
 
-abbrev pub invariant-loop-k : goal.invariant-loop-k
-invariant-loop-k l = (length l.figures ≡ 32) × ((i : ℕ) → i < l.k → get_or l.figures i 0 ≡ get_or l.bounds i 0)
+abbrev pub invariant-loop-bound : goal.invariant-loop-bound
+invariant-loop-bound l = l.figures.items ≡ map (λ p. p.0) (take l.bound-index l.found)
