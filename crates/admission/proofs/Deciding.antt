@@ -10,7 +10,7 @@ use Rattle.model.specs.Worked.{Answered}
 use Rattle.model.specs.declared.figures.Figures.{Figures}
 use Rattle.model.proofs.Processor.{one_more}
 use Rattle.model.proofs.Rounds.{refuses_late}
-use Rattle.admission.proofs.Iteration.{distance, Rising, Round, rising_round, distance_falls, admits_unmoved}
+use Rattle.admission.proofs.Iteration.{distance, Rising, Found, rising_round, distance_falls, admits_unmoved}
 use Rattle.admission.specs.Rows.{Same}
 use Rattle.admission.specs.Verdicts.{Right, Verdict}
 
@@ -100,7 +100,7 @@ module _ (tasks : List Figures) (points : List ℤ) where
       let late : ℕ → ℕ = λ k. (get_or tasks k no_task).deadline + 1 in
       ⊎_elim
       (λ (in_time : (k : ℕ) → k < n → get_or next k 0 < late k).
-      let round : AllFit tasks → Round tasks points figures next firsts n =
+      let round : AllFit tasks → Found tasks points figures next firsts n =
       λ fit. record { smallest = smallest_totals figures fit; in_time = λ k h. omega (arith, in_time k h) } in
       ⊎_elim
       (λ (same : Same figures next n). (

@@ -43,7 +43,7 @@ module _ (tasks : List Figures) (points : List ℤ) where
     pub cut : (k : ℕ) → k < length tasks → get_or figures k 0 ≤ (get_or tasks k no_task).deadline + 1
 
   -- What a round has found for the first tasks.
-  pub record Round (figures bounds offsets : List ℕ) (many : ℕ) : Type 0 where
+  pub record Found (figures bounds offsets : List ℕ) (many : ℕ) : Type 0 where
     pub smallest : (k : ℕ) → k < many → SmallestTotal tasks points figures k (get_or bounds k 0) (get_or offsets k 0)
     pub in_time : (k : ℕ) → k < many → get_or bounds k 0 ≤ (get_or tasks k no_task).deadline
 
@@ -59,10 +59,10 @@ module _ (tasks : List Figures) (points : List ℤ) where
   up : (figures : List ℕ) (k b q : ℕ) → k < length tasks → Rising figures → SmallestTotal tasks points figures k b q → get_or figures k 0 ≤ b
   up figures k b q h c s = omega (arith, c.rise k h q s.inside, s.attains)
 
-  pub round_more : (figures bounds offsets : List ℕ) (many b q : ℕ) → length bounds ≡ many → length offsets ≡ many
-      → Round figures bounds offsets many → SmallestTotal tasks points figures many b q → b ≤ (get_or tasks many no_task).deadline
-      → Round figures (bounds ++ b ∷ []) (offsets ++ q ∷ []) (many + 1)
-  round_more figures bounds offsets many b q long as_long r total in_time =
+  pub found_more : (figures bounds offsets : List ℕ) (many b q : ℕ) → length bounds ≡ many → length offsets ≡ many
+      → Found figures bounds offsets many → SmallestTotal tasks points figures many b q → b ≤ (get_or tasks many no_task).deadline
+      → Found figures (bounds ++ b ∷ []) (offsets ++ q ∷ []) (many + 1)
+  found_more figures bounds offsets many b q long as_long r total in_time =
       let here = get_or_push bounds b 0 many long in
       let there = get_or_push offsets q 0 many as_long in
       record {
@@ -73,7 +73,7 @@ module _ (tasks : List Figures) (points : List ℤ) where
             (λ k h. rw (get_or-append bounds (b ∷ []) 0 k (omega arith)) (r.in_time k h)) (rw here in_time);
       }
 
-  module _ (figures bounds offsets : List ℕ) (c : Rising figures) (r : Round figures bounds offsets (length tasks)) where
+  module _ (figures bounds offsets : List ℕ) (c : Rising figures) (r : Found figures bounds offsets (length tasks)) where
     up_all : (k : ℕ) → k < length tasks → get_or figures k 0 ≤ get_or bounds k 0
     up_all k h = up figures k _ _ h c (r.smallest k h)
 

@@ -4,8 +4,7 @@ ghost use Rattle.model.specs.Figures.{Tasks, most_tasks};
 ghost use Rattle.model.specs.Verdict.{Admits, Refuses};
 ghost use Rattle.admission.specs.Rows.{Rows, Same, Start};
 
-use crate::search::smallest_total;
-use crate::total::{alone, first_late};
+use crate::total::{Round, alone, first_late};
 use arrayvec::ArrayVec;
 use model::Figures;
 use tasks::CAPACITY;
@@ -63,9 +62,14 @@ pub(crate) fn smallest_bounds(
 {
     let mut figures = start;
     'rounds: loop {
+        let round = Round {
+            tasks,
+            points,
+            figures: &figures,
+        };
         let mut found = ArrayVec::new();
         for own in 0..tasks.len() {
-            let Some(least) = smallest_total(tasks, points, &figures, own) else {
+            let Some(least) = round.smallest_total(own) else {
                 break 'rounds None;
             };
             found.push(least);

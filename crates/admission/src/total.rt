@@ -51,44 +51,45 @@ fn taken(task: Figures, reach: i64) -> u64
     periods(reach, task.period) * u64::from(task.execution)
 }
 
-/// What task `other` takes from a job of task `own` at an offset: nothing if they are one task.
-fn share(
-    tasks: &[Figures],
-    points: &[i32],
-    bounds: &[u32],
-    own: usize,
-    offset: u16,
-    other: usize,
-) -> u64
-    requires rows { Rows tasks.now points.now bounds.now }
-    requires own { own < length tasks.now }
-    requires other { other < length tasks.now }
-    ensures value { result ≡ share tasks.now points.now bounds.now
-        own offset other }
-    ensures small { result < 2 ^ 50 }
-{
-    if other == own {
-        return 0;
-    }
-    let reach = reach(points[own], points[other], bounds[other], offset);
-    taken(tasks[other], reach)
+/// What a round looks at: tasks that fit, one point for each, and a figure for the bound of each.
+#[derive(Clone, Copy)]
+pub(crate) struct Round<'t> {
+    pub(crate) tasks: &'t [Figures],
+    pub(crate) points: &'t [i32],
+    pub(crate) figures: &'t [u32],
+    ghost rows: { Rows tasks.now points.now figures.now },
 }
 
-/// The total of task `own` at an offset: its C, its S and the offset, and what every other task takes.
-pub(crate) fn total(
-    tasks: &[Figures],
-    points: &[i32],
-    bounds: &[u32],
-    own: usize,
-    offset: u16,
-) -> u64
-    requires rows { Rows tasks.now points.now bounds.now }
-    requires own { own < length tasks.now }
-    ensures value { result ≡ total tasks.now points.now bounds.now own offset }
-{
-    let mut sum = u64::from(alone(tasks[own])) + u64::from(offset);
-    for other in 0..tasks.len() {
-        sum += share(tasks, points, bounds, own, offset, other);
+impl Round<'_> {
+    /// What task `other` takes from a job of task `own` at an offset: nothing if they are one task.
+    fn share(self, own: usize, offset: u16, other: usize) -> u64
+        requires own { own < length self.tasks.now }
+        requires other { other < length self.tasks.now }
+        ensures value { result ≡ share self.entry.tasks.now self.entry.points.now self.entry.figures.now own offset other }
+        ensures small { result < 2 ^ 50 }
+    {
+        if other == own {
+            return 0;
+        }
+        let reach = reach(
+            self.points[own],
+            self.points[other],
+            self.figures[other],
+            offset,
+        );
+        taken(self.tasks[other], reach)
     }
-    sum
+
+    /// The total of task `own` at an offset: its C, its S and the offset, and what every other task takes.
+    pub(crate) fn total(self, own: usize, offset: u16) -> u64
+        requires { own < length self.tasks.now }
+        ensures { result ≡ total self.entry.tasks.now self.entry.points.now self.entry.figures.now own offset }
+    {
+        let mut sum = u64::from(alone(self.tasks[own])) + u64::from(offset);
+        // Not the `sum` of a chain: how small a share is, its call alone says, and the proof that all fit needs it.
+        for other in 0..self.tasks.len() {
+            sum += self.share(own, offset, other);
+        }
+        sum
+    }
 }

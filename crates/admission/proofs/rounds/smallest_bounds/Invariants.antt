@@ -1,5 +1,5 @@
 use Rattle.std.proofs.Common.{◌≡◌, length, map}
-use Rattle.admission.proofs.Iteration.{distance, Rising, Round}
+use Rattle.admission.proofs.Iteration.{distance, Rising, Found}
 use Rattle.admission.proofs.rounds.smallest_bounds.Given as goal
 
 abbrev pub invariant-rounds : goal.invariant-rounds
@@ -11,4 +11,4 @@ decreases-rounds l = distance l.tasks l.figures.items
 abbrev pub invariant-loop-own : goal.invariant-loop-own
 invariant-loop-own l =
     (length l.found.items ≡ l.own)
-    × Round l.tasks l.points l.figures.items (map (λ p. p.0) l.found.items) (map (λ p. p.1) l.found.items) l.own
+    × Found l.tasks l.points l.round.1.1.0.now (map (λ p. p.0) l.found.items) (map (λ p. p.1) l.found.items) l.own
