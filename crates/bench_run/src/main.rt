@@ -25,6 +25,7 @@ fn line() -> Table {
 }
 
 /// A number for an answer.
+// Not a derived hash: the plain dispatcher in C makes the same number of its answers.
 fn code(answer: Result<Answer, Refusal>) -> u64 {
     match answer {
         Ok(Answer::Released(clock)) => 1 ^ (u64::from(clock) << 8),

@@ -103,6 +103,7 @@ pub fn print_run<'s, R: OrderRule>(
     rule: &'s R,
 ) -> io::Result<()> {
     println!(rt; "A picture, call by call:")?;
+    // Not `?`: the refusal is part of what is shown, and the program goes on.
     let checked = match Checked::check(set, rule) {
         Ok(checked) => checked,
         Err(refusal) => return println!(rt; "  {refusal}"),
@@ -139,6 +140,7 @@ pub fn print_held<'s, R: OrderRule>(
     for (entry, call) in entries.iter_mut().zip(picture()) {
         entry.call = call;
     }
+    // Not `?`: as above.
     let totals = match hold(set, rule, &mut entries) {
         Ok(totals) => totals,
         Err(refusal) => return println!(rt; "  {refusal}"),

@@ -1,5 +1,5 @@
 //! The verdict on a table under the rules that the line compares.
-use admission::{Accepted, admit};
+use admission::{Accepted, Admitted, admit};
 use rules::{Bottom, Figure, OrderRule, Weighted};
 use std::io;
 use tasks::Table;
@@ -16,7 +16,8 @@ pub fn print_verdict<R: OrderRule>(
         return println!(rt; "  {label}: {refusal}");
     }
     println!(rt; "  {label}: admitted")?;
-    for (task, (bound, offset)) in place.bounds().iter().zip(place.offsets()).enumerate() {
+    for (task, row) in place.as_slice().iter().enumerate() {
+        let Admitted { bound, offset, .. } = *row;
         println!(rt; "    task {task}: every job ends within {bound} ticks (offset {offset})")?;
     }
     Ok(())

@@ -1,4 +1,3 @@
-pub mod Adding
 pub mod Admitted
 pub mod Books
 pub mod Bound

@@ -29,6 +29,7 @@ pub enum Refusal {
 
 impl Refusal {
     /// The number of this refusal, from 1 to 17.
+    // Not `From<Refusal> for u8`: at a call `refusal.number()` says what the byte is.
     pub fn number(self) -> u8
         ensures value { result ≡ number self }
     {

@@ -50,6 +50,7 @@ impl Bottom {
     pub fn new(kind: Kind, table: &Table) -> Bottom
         ensures points { point_of result.points ≡ bottom_point kind (listed table.now) }
     {
+        // Not a closure: a kind is data, which scripts and hosts hand over as a byte.
         match kind {
             Kind::Deadline => Bottom::deadline(table),
             Kind::Arrival => Bottom::arrival(),

@@ -13,6 +13,7 @@ pub const LARGEST: i32 = 1_000_000_000;
 pub const SMALLEST: i32 = -1_000_000_000;
 
 /// A point for every task number: what is stored, and 0 for all other numbers.
+// Not an `ArrayVec`: a rule is copied freely, and an `ArrayVec` is not `Copy`.
 #[derive(Clone, Copy)]
 pub(crate) struct Points {
     at: [i32; CAPACITY],

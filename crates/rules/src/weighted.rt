@@ -17,6 +17,7 @@ use tasks::Table;
 pub const HEAVIEST: i32 = 16;
 
 /// The figure that a layer weighs.
+// Not a closure: the enum says, in the contract and in the call, which of the two figures is meant.
 #[derive(Clone, Copy, PartialEq, Eq, Debug)]
 pub enum Figure {
     /// C.

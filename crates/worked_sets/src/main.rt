@@ -32,8 +32,8 @@ fn print_place(
     if let Err(refusal) = verdict {
         print!(rt; " {refusal}; the place holds")?;
     }
-    for (bound, offset) in place.bounds().iter().zip(place.offsets()) {
-        print!(rt; " {bound} at {offset}")?;
+    for row in place.as_slice() {
+        print!(rt; " {} at {}", row.bound, row.offset)?;
     }
     println!(rt; "")
 }

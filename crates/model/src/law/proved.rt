@@ -1,4 +1,5 @@
 //! The laws, where their proofs are given.
+// Not one function for each law: then its body would be empty, and no wrong body could be tried on it.
 ghost use Rattle.model.specs.CountLaws.{CountLaws};
 ghost use Rattle.model.specs.ProcessorLaw.{ProcessorLaw};
 ghost use Rattle.model.specs.RunLaw.{RunLaw};

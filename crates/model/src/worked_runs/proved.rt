@@ -1,4 +1,5 @@
 //! What is known of the worked runs, where the proofs are given.
+// Not one function: then its body would be empty, and no wrong body could be tried on it.
 ghost use Rattle.model.specs.Test.{count};
 ghost use Rattle.model.specs.WeakerTests.{Misled, SameTotal};
 ghost use Rattle.model.specs.WeakerTests.{count_rounded_down, count_without_bound};
