@@ -20,8 +20,7 @@ impl<'m, T> Log<'m, T> {
     pub fn as_slice(&self) -> &[T]
         ensures value { result.now ≡ records self.now }
     {
-        let memory: &[T] = &*self.memory;
-        &memory[0..self.count]
+        &self.memory[..self.count]
     }
 
     /// How many records the log has.
@@ -53,10 +52,6 @@ impl<'m, T: Copy> Log<'m, T> {
     pub fn get(&self, place: usize) -> Option<T>
         ensures value { result ≡ slice_get (records self.now) place }
     {
-        if place >= self.count {
-            return None;
-        }
-        let memory: &[T] = &*self.memory;
-        Some(memory[place])
+        self.as_slice().get(place).copied()
     }
 }
