@@ -1,5 +1,4 @@
 mod Ends
-mod Items
 mod Naming
 mod Noted
 mod RecordLaw

@@ -1,7 +1,7 @@
 //! What a call gives to record.
 ghost use Rattle.std.specs.Prelude.{◌≡◌, Ok};
 ghost use Rattle.record_log.specs.Records.{records, room};
-ghost use Rattle.script.specs.Sessions.{alike, noted, rows, stretch};
+ghost use Rattle.script.specs.Sessions.{noted, outcome, rows, stretch};
 
 use crate::records::{Row, Stretch};
 use model::Answer;
@@ -18,17 +18,6 @@ pub(crate) fn note<T: Copy>(log: &mut Log<'_, T>, record: Option<T>) -> bool
     match record {
         Some(record) => log.push(record).is_err(),
         None => false,
-    }
-}
-
-// Whether two ticks are given to one task, or both to none.
-fn is_alike(a: Option<u32>, b: Option<u32>) -> bool
-    ensures value { result ≡ alike a b }
-{
-    match (a, b) {
-        (None, None) => true,
-        (Some(a), Some(b)) => a == b,
-        _ => false,
     }
 }
 
@@ -56,12 +45,9 @@ pub(crate) fn turned(clock: u32, answer: Answer, row: Option<Row>) -> (Option<St
         task: ticked.ran,
         first: clock,
     });
-    let Some(old) = row else {
-        return (None, begins);
-    };
-    if is_alike(old.task, ticked.ran) {
-        (None, row)
-    } else {
-        (Some(old.stretch(clock)), begins)
+    match row {
+        Some(old) if old.task == ticked.ran => (None, row),
+        Some(old) => (Some(old.stretch(clock)), begins),
+        None => (None, begins),
     }
 }

@@ -14,7 +14,7 @@ use super::{Closed, Session};
 use crate::command::Command;
 use crate::records::{Cause, EndRecord, Lost, Stretch, Turn};
 use dispatch::Checked;
-use model::{Answer, Call, Refusal};
+use model::{Answer, Call, Refusal, Ticked};
 use record_log::Log;
 use rules::OrderRule;
 
@@ -57,10 +57,13 @@ impl<'s, R: OrderRule> Session<'s, R> {
     {
         match answer {
             Answer::Finished(ended) => Some(self.end_of(ended.task, Cause::Finish)),
-            Answer::Passed(ticked) => match ticked.ran {
-                Some(task) if ticked.ended => Some(self.end_of(task, Cause::Count)),
-                _ => None,
-            },
+            Answer::Passed(
+                Ticked {
+                    ran: Some(task),
+                    ended: true,
+                    ..
+                },
+            ) => Some(self.end_of(task, Cause::Count)),
             _ => None,
         }
     }
@@ -135,10 +138,7 @@ impl<'s, R: OrderRule> Session<'s, R> {
     {
         let Session { run, row } = self;
         let clock = run.clock();
-        let last = match row {
-            Some(row) => Some(row.stretch(clock)),
-            None => None,
-        };
+        let last = row.map(|row| row.stretch(clock));
         Closed {
             lost: note(stretches, last),
             totals: run.close(),

@@ -28,10 +28,7 @@ impl Setup {
         ensures state { desk self.new ≡ (entered command (desk self.old)).1 }
     {
         match command {
-            Command::Task(figures) => match self.table.add(figures) {
-                Ok(_) => Ok(Entered::Stored),
-                Err(refusal) => Err(refusal),
-            },
+            Command::Task(figures) => self.table.add(figures).map(|_| Entered::Stored),
             Command::Rule(choice) => {
                 self.choice = choice;
                 Ok(Entered::Stored)
