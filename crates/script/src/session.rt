@@ -1,20 +1,27 @@
 //! A run that is carried out by commands.
-use crate::records::Row;
+use crate::records::{EndRecord, Row, Stretch};
 use dispatch::{Run, Totals};
+use record_log::Log;
 
 mod notes;
 mod steps;
 
-/// A run, and the row of ticks that goes on. Its user brings two logs, of ends and of stretches, to every step.
+/// A run, the row of ticks that goes on, and the logs of what has come to an end.
 #[derive(Drop)]
-pub struct Session<'s, R> {
+pub struct Session<'s, 'm, R> {
     run: Run<'s, R>,
     row: Option<Row>,
+    ends: Log<'m, EndRecord>,
+    stretches: Log<'m, Stretch>,
 }
 
 /// What a closed session answers.
-#[derive(Clone, Copy)]
-pub struct Closed {
+#[derive(Drop)]
+pub struct Closed<'m> {
+    /// The log of ends.
+    pub ends: Log<'m, EndRecord>,
+    /// The log of stretches, with the last row unless that found it full.
+    pub stretches: Log<'m, Stretch>,
     /// Whether the last row found its log full.
     pub lost: bool,
     /// The clock at the end, and the tasks with an open job.

@@ -1,23 +1,63 @@
 //! What a call gives to record.
-ghost use Rattle.std.specs.Prelude.{◌≡◌, Ok};
+ghost use Rattle.std.specs.Prelude.{◌≡◌, ◌<◌, length};
+ghost use Rattle.dispatch.specs.Runs.{set_tasks, state};
 ghost use Rattle.record_log.specs.Records.{records, room};
-ghost use Rattle.script.specs.Sessions.{noted, outcome, rows, stretch};
+ghost use Rattle.script.specs.Kept.{SameMemory};
+ghost use Rattle.script.specs.Names.{Named};
+ghost use Rattle.script.specs.Sessions.{end_of, ended_by, noted, outcome, rows, stretch};
 
-use crate::records::{Row, Stretch};
-use model::Answer;
+use crate::records::{Cause, EndRecord, Lost, Row, Stretch, Turn};
+use dispatch::Run;
+use model::{Answer, Refusal, Ticked};
 use record_log::Log;
+use rules::OrderRule;
 
 // Pushes a record, if there is one, and answers whether it is lost.
 pub(crate) fn note<T: Copy>(log: &mut Log<'_, T>, record: Option<T>) -> bool
     ensures answer { result ≡ (noted (room log.old) (records log.old) «record»).0 }
     ensures records { records log.new
         ≡ (noted (room log.old) (records log.old) «record»).1 }
-    ensures room { room log.new ≡ room log.old }
-    ensures name { log.new.memory.ghost_name ≡ log.old.memory.ghost_name }
+    ensures memory { SameMemory log.old log.new }
 {
     match record {
         Some(record) => log.push(record).is_err(),
         None => false,
+    }
+}
+
+// The end of the latest job of a task.
+fn end_of<R: OrderRule>(run: &Run<'_, R>, task: u32, cause: Cause) -> EndRecord
+    requires { task < length (set_tasks run.now) }
+    ensures value { result ≡ end_of task cause (state run.now) }
+{
+    let (release, given) = match run.latest(task) {
+        Ok(Some(job)) => (job.release, job.given),
+        _ => (0, 0),
+    };
+    EndRecord {
+        task,
+        release,
+        end: run.clock(),
+        given,
+        cause,
+    }
+}
+
+// The end that a call with this answer brought.
+pub(crate) fn ended_by<R: OrderRule>(run: &Run<'_, R>, answer: Answer) -> Option<EndRecord>
+    requires { Named (length (set_tasks run.now)) answer }
+    ensures value { result ≡ ended_by answer (state run.now) }
+{
+    match answer {
+        Answer::Finished(ended) => Some(end_of(run, ended.task, Cause::Finish)),
+        Answer::Passed(
+            Ticked {
+                ran: Some(task),
+                ended: true,
+                ..
+            },
+        ) => Some(end_of(run, task, Cause::Count)),
+        _ => None,
     }
 }
 
