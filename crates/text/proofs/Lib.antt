@@ -1,5 +1,4 @@
 mod Heard
 mod Printed
 mod Starts
-mod Turns
 mod WorkedScript

@@ -24,6 +24,12 @@ pub said_last : {E : Type 0} (r : Result (Unit {0}) E) (before now after : List 
 said_last (Ok done) before now after ls ms first then = said_more before now after ls ms first then
 said_last (Err e) before now after ls ms first then = tt
 
+-- Three parts, one after the other.
+pub said_third : {E : Type 0} (r : Result (Unit {0}) E) (t₀ t₁ t₂ t₃ : List ℕ) (ls ms ns : List Line) → t₁ ≡ t₀ ++ printed ls
+    → t₂ ≡ t₁ ++ printed ms → IfOk r (λ _. t₃ ≡ t₂ ++ printed ns) → IfOk r (λ _. t₃ ≡ t₀ ++ printed (ls ++ (ms ++ ns)))
+said_third r t₀ t₁ t₂ t₃ ls ms ns first second third =
+    rw (← append_assoc ls ms ns) (said_last r t₀ t₂ t₃ (ls ++ ms) ns (said_more t₀ t₁ t₂ ls ms first second) third)
+
 -- One more record of a list.
 pub said_next : {T : Type 0} (f : T → Line) (xs : List T) (i : ℕ) (x : T) (before now after : List ℕ) → i < length xs → x ≡ get_or xs i x
     → now ≡ before ++ printed (map f (take i xs)) → after ≡ now ++ printed (f x ∷ []) → after ≡ before ++ printed (map f (take (i + 1) xs))
@@ -71,9 +77,3 @@ pub said_then : (before now : List ℕ) (ls later : List Line) → now ≡ befor
 said_then before now ls later said =
     ap (λ (t : List ℕ). before ++ t) (printed_append ls later) ∙ (sym (append_assoc before (printed ls) (printed later))
     ∙ ap (λ (t : List ℕ). t ++ printed later) (sym said))
-
--- What is said last makes up the whole.
-pub said_whole : {E : Type 0} (r : Result (Unit {0}) E) (after all now : List ℕ) (ls : List Line) → all ≡ now ++ printed ls
-    → IfOk r (λ _. after ≡ now ++ printed ls) → IfOk r (λ _. after ≡ all)
-said_whole (Ok done) after all now ls whole then = then ∙ sym whole
-said_whole (Err e) after all now ls whole then = tt

@@ -1,5 +1,6 @@
 -- What a start says by the verdict on its table.
 use Rattle.std.proofs.Common.{◌≡◌, ℕ, Bool, true, false, List, [], ◌∷◌, ◌++◌, length, get_or, ℤ, pos, Some, None, Option, sym, ap, ◌∙◌, append-nil, arith}
+use Rattle.std.proofs.lemmas.Bool.{true≢false}
 use Rattle.std.proofs.lemmas.List.FromFn.{get_or-map-range_with_len, length-map-range_with_len}
 use Rattle.admission.proofs.Unique.{one_answer}
 use Rattle.admission.specs.Tested.{Granted, Refused as NotGranted}
@@ -13,13 +14,13 @@ use Rattle.model.specs.Worked.{Answered}
 use Rattle.model.specs.declared.figures.Figures.{Figures}
 use Rattle.model.specs.declared.job.JobId.{JobId}
 use Rattle.model.specs.declared.refusal.Refusal.{Refusal}
-use Rattle.script.specs.Commands.{Item}
 use Rattle.script.specs.Sessions.{opened}
 use Rattle.text.specs.Lines.{printed}
-use Rattle.text.specs.Playing.{Tried}
+use Rattle.text.specs.Playing.{Says, Tried, left, told}
 use Rattle.text.specs.Spoken.{bound_lines, inside, started}
 use Rattle.text.specs.declared.line.Line.{Line}
 use Rattle.text.specs.declared.line.Line.TheVariants.{Refused}
+use Rattle.text.specs.declared.player.Player.{Player}
 use Rattle.text.proofs.Printed.{said_then}
 
 module _ (tasks : List Figures) (point : ℕ → ℤ) where
@@ -33,27 +34,36 @@ module _ (tasks : List Figures) (point : ℕ → ℤ) where
       sym (ap (λ (ps : List ℤ). get_or ps k (pos 0)) granted.its_points
       ∙ get_or-map-range_with_len point 0 (length tasks) k k (pos 0) (omega arith) (omega arith))
 
-  module _ (allowed : Tasks tasks) (before : JobId → JobId → Bool) (rest : List Item) (text text' : List ℕ) where
+  module _ (allowed : Tasks tasks) (before : JobId → JobId → Bool) (p p' : Player) where
     one_each : length points ≡ length tasks
     one_each = length-map-range_with_len point 0 (length tasks)
 
     -- What a right verdict says, where the answer is known.
     says : (answer : Option (List ℕ × List ℕ)) (verdict : Verdict) → Right verdict → Answered tasks points answer → (later : List Line)
-        → started (verdict tasks points) (inside tasks before opened rest) later ≡ started answer (inside tasks before opened rest) later
+        → started (verdict tasks points) (inside tasks before opened (left p)) later ≡ started answer (inside tasks before opened (left p)) later
     says answer verdict right answered later =
-        ap (λ (a : Option (List ℕ × List ℕ)). started a (inside tasks before opened rest) later)
+        ap (λ (a : Option (List ℕ × List ℕ)). started a (inside tasks before opened (left p)) later)
         (one_answer tasks points (verdict tasks points) answer (right tasks points allowed one_each) answered)
 
     pub tried_yes : (set : Accepted) → Granted tasks points set
-        → text' ≡ text ++ printed (bound_lines 0 (bounds_of set) (offsets_of set) ++ inside (tasks_of set) before opened rest)
-        → Tried tasks point before rest text text' true
-    tried_yes set granted said verdict right later =
-        ap (λ (ls : List Line). text ++ printed ls) (says (Some (bounds_of set, offsets_of set)) verdict right granted.admits later)
-        ∙ (ap (λ (ts : List Figures). text ++ printed (bound_lines 0 (bounds_of set) (offsets_of set) ++ inside ts before opened rest))
-        (sym granted.its_tasks) ∙ (sym said ∙ sym (append-nil text')))
+        → Says p p' (bound_lines 0 (bounds_of set) (offsets_of set) ++ inside (tasks_of set) before opened (left p))
+        → Tried tasks point before p p' true
+    tried_yes set granted said =
+        record {
+          said = λ verdict right later.
+              ap (λ (ls : List Line). told p ++ printed ls) (says (Some (bounds_of set, offsets_of set)) verdict right granted.admits later)
+              ∙ (ap (λ (ts : List Figures). told p ++ printed (bound_lines 0 (bounds_of set) (offsets_of set) ++ inside ts before opened (left p)))
+              (sym granted.its_tasks) ∙ (sym said ∙ sym (append-nil (told p'))));
+          rest = λ e. absurd (true≢false e);
+        }
 
     pub tried_no : (set set' : Accepted) (why : Refusal) → NotGranted tasks points set set' why
-        → text' ≡ text ++ printed (Refused why ∷ []) → Tried tasks point before rest text text' false
-    tried_no set set' why not said verdict right later =
-        ap (λ (ls : List Line). text ++ printed ls) (says None verdict right not.refuses later)
-        ∙ (ap (λ (e : Refusal). text ++ printed (Refused e ∷ later)) (sym not.why) ∙ said_then text text' (Refused why ∷ []) later said)
+        → Says p p' (Refused why ∷ []) → left p' ≡ left p → Tried tasks point before p p' false
+    tried_no set set' why not said rest =
+        record {
+          said = λ verdict right later.
+              ap (λ (ls : List Line). told p ++ printed ls) (says None verdict right not.refuses later)
+              ∙ (ap (λ (e : Refusal). told p ++ printed (Refused e ∷ later)) (sym not.why)
+              ∙ said_then (told p) (told p') (Refused why ∷ []) later said);
+          rest = λ _. rest;
+        }

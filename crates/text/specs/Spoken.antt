@@ -10,7 +10,9 @@ use Rattle.rules.specs.Choices.{chosen_before, chosen_point}
 use Rattle.script.specs.Commands.{Item, items}
 use Rattle.script.specs.Sessions.{Books, commanded, opened, settled}
 use Rattle.script.specs.Setups.{Desk, empty, entered}
+use Rattle.script.specs.declared.records.EndRecord.{EndRecord}
 use Rattle.script.specs.declared.records.Lost.{Lost}
+use Rattle.script.specs.declared.records.Stretch.{Stretch}
 use Rattle.script.specs.declared.records.Turn.{Turn}
 use Rattle.script.specs.declared.records.Turn.TheVariants.{Made, Closes}
 use Rattle.script.specs.declared.setup.Entered.{Entered}
@@ -33,10 +35,13 @@ abbrev pub losses : Lost → List Line
 losses lost = loss lost.end ++ loss lost.row
 
 -- What the end of a run says: whether the last row is lost, then every end, then every stretch.
+abbrev pub report_of : Bool → List EndRecord → List Stretch → List Line
+report_of lost ends stretches = loss lost ++ (map End ends ++ map Run stretches)
+
+-- The report of what a session holds.
 abbrev pub report : Books → List Line
 report b =
-    loss (settled log_room b.stretches b.state.clock b.row).0
-    ++ (map End b.ends ++ map Run (settled log_room b.stretches b.state.clock b.row).1)
+    report_of (settled log_room b.stretches b.state.clock b.row).0 b.ends (settled log_room b.stretches b.state.clock b.row).1
 
 -- What the answer of a command in a run says, and what follows: the report, or the lines of later commands.
 abbrev pub turn : Result Turn Refusal → List Line → List Line → List Line

@@ -1,117 +1,81 @@
 //! The commands of a run, and what they say.
-ghost use Rattle.std.specs.Prelude.{◌≡◌, Bool, true, false, cond, [], ◌++◌, length, IfOk, None, string_bytes, OnOk};
-ghost use Rattle.dispatch.specs.Runs.{Kept, of_rule, set_tasks, state};
-ghost use Rattle.record_log.specs.Records.{records, room};
-ghost use Rattle.model.specs.State.{start};
-ghost use Rattle.script.specs.Commands.{Item as Read, items};
-ghost use Rattle.script.specs.Kept.{SameMemory};
-ghost use Rattle.script.specs.Sessions.{opened, settled};
+ghost use Rattle.std.specs.Prelude.{◌≡◌, IfOk, string_bytes};
+ghost use Rattle.dispatch.specs.Runs.{of_rule, set_tasks};
+ghost use Rattle.record_log.specs.Records.{room};
+ghost use Rattle.script.specs.Kept.{Kept};
+ghost use Rattle.script.specs.Sessions.{opened};
 ghost use Rattle.script.specs.Views.{books};
-ghost use Rattle.text.specs.Lines.{printed};
-ghost use Rattle.text.specs.Playing.{Said};
-ghost use Rattle.text.specs.Spoken.{inside, log_room, obeyed, report};
+ghost use Rattle.text.specs.Spoken.{log_room, obeyed};
 
 use crate::line::Line;
-use crate::saying::{say, say_loss, say_losses, say_records};
+use crate::saying::{say, say_losses};
+use dispatch::Checked;
 use model::Refusal;
 use record_log::Log;
 use rules::OrderRule;
-use script::{Command, EndRecord, Reader, Session, Stretch, Turn};
+use script::{Command, EndRecord, RECORDS, Session, Stretch, Turn};
 use std::alloc::AllocError;
 
-// Carries out what was read in a run.
-fn obey<R: OrderRule>(
-    session: &mut Session<'_, R>,
-    item: Result<Command, Refusal>,
-    ends: &mut Log<'_, EndRecord>,
-    stretches: &mut Log<'_, Stretch>,
-) -> Result<Turn, Refusal>
-    requires end_room { room ends.old ≡ log_room }
-    requires row_room { room stretches.old ≡ log_room }
-    ensures answer { result
-        ≡ (obeyed (set_tasks session.old.run) (R.OrderRule.before (of_rule session.old.run)) item
-        (books session.old ends.old stretches.old)).0 }
-    ensures state { books session.new ends.new stretches.new
-        ≡ (obeyed (set_tasks session.old.run) (R.OrderRule.before (of_rule session.old.run)) item
-        (books session.old ends.old stretches.old)).1 }
-    ensures kept { Kept session.old.run session.new.run }
-    ensures ends { SameMemory ends.old ends.new }
-    ensures stretches { SameMemory stretches.old stretches.new }
-{
-    match item {
-        Ok(command) => session.step(command, ends, stretches),
-        Err(refusal) => Err(refusal),
-    }
+/// A run that is played. Its logs have the room that a script gives them.
+#[derive(Drop)]
+pub(crate) struct Play<'s, 'm, R> {
+    pub(crate) session: Session<'s, 'm, R>,
+    ghost end_room: { room session.ends ≡ log_room },
+    ghost row_room: { room session.stretches ≡ log_room },
 }
 
-// Carries out what was read in a run and says what it answers. Answers whether the run is to be closed.
-fn step<R: OrderRule>(
-    session: &mut Session<'_, R>,
-    item: Result<Command, Refusal>,
-    ends: &mut Log<'_, EndRecord>,
-    stretches: &mut Log<'_, Stretch>,
-    text: &mut String,
-) -> Result<bool, AllocError>
-    requires end_room { room ends.old ≡ log_room }
-    requires row_room { room stretches.old ≡ log_room }
-    ensures said { IfOk result (λ closes. Said (set_tasks session.old.run)
-        (R.OrderRule.before (of_rule session.old.run)) item
-        (books session.old ends.old stretches.old) (books session.new ends.new stretches.new)
-        (string_bytes text.old) (string_bytes text.new) closes) }
-    ensures kept { Kept session.old.run session.new.run }
-    ensures ends { SameMemory ends.old ends.new }
-    ensures stretches { SameMemory stretches.old stretches.new }
-{
-    match obey(session, item, ends, stretches) {
-        Ok(turn) => match turn {
-            Turn::Made(lost) => {
+impl<'s, 'm, R: OrderRule> Play<'s, 'm, R> {
+    ghost use Rattle.admission.specs.Views.{tasks_of};
+    ghost use Rattle.text.specs.Playing.{Said};
+
+    /// Starts a run with two empty logs over this memory.
+    pub(crate) fn start(
+        checked: Checked<'s, R>,
+        ends: &'m mut [EndRecord; RECORDS],
+        stretches: &'m mut [Stretch; RECORDS],
+    ) -> Play<'s, 'm, R>
+        ensures tasks { set_tasks result.session.run ≡ tasks_of checked.entry.set.now }
+        ensures rule { of_rule result.session.run ≡ checked.entry.rule.now }
+        ensures books { books result.session ≡ opened }
+    {
+        Play {
+            session: Session::start(checked, Log::over(ends), Log::over(stretches)),
+        }
+    }
+
+    // Carries out what was read.
+    fn obey(&mut self, item: Result<Command, Refusal>) -> Result<Turn, Refusal>
+        ensures answer { result ≡ (obeyed (set_tasks self.old.session.run)
+            (R.OrderRule.before (of_rule self.old.session.run)) item (books self.old.session)).0 }
+        ensures state { books self.new.session ≡ (obeyed (set_tasks self.old.session.run)
+            (R.OrderRule.before (of_rule self.old.session.run)) item (books self.old.session)).1 }
+        ensures kept { Kept self.old.session self.new.session }
+    {
+        self.session.step(item?)
+    }
+
+    /// Carries out what was read and says what it answers. Answers whether the run is to be closed.
+    pub(crate) fn step(
+        &mut self,
+        item: Result<Command, Refusal>,
+        text: &mut String,
+    ) -> Result<bool, AllocError>
+        ensures said { IfOk result (λ closes. Said (set_tasks self.old.session.run)
+            (R.OrderRule.before (of_rule self.old.session.run)) item
+            (books self.old.session) (books self.new.session)
+            (string_bytes text.old) (string_bytes text.new) closes) }
+        ensures kept { Kept self.old.session self.new.session }
+    {
+        match self.obey(item) {
+            Ok(Turn::Made(lost)) => {
                 say_losses(text, lost)?;
                 Ok(false)
             }
-            Turn::Closes => Ok(true),
-        },
-        Err(refusal) => {
-            say(text, Line::Refused(refusal))?;
-            Ok(false)
+            Ok(Turn::Closes) => Ok(true),
+            Err(refusal) => {
+                say(text, Line::Refused(refusal))?;
+                Ok(false)
+            }
         }
     }
-}
-
-// Closes a run and says its report.
-fn finish<R: OrderRule>(
-    session: Session<'_, R>,
-    ends: &Log<'_, EndRecord>,
-    stretches: &mut Log<'_, Stretch>,
-    text: &mut String,
-) -> Result<(), AllocError>
-    requires row_room { room stretches.old ≡ log_room }
-    ensures said { OnOk result (string_bytes text.new ≡ string_bytes text.old
-        ++ printed (report (books session.entry ends.now stretches.old))) }
-{
-    let closed = session.close(stretches);
-    say_loss(text, closed.lost)?;
-    say_records(text, ends)?;
-    say_records(text, stretches)
-}
-
-/// Plays the items of a run to its end, and says what they and the report say.
-pub(crate) fn play_run<R: OrderRule>(
-    mut session: Session<'_, R>,
-    reader: &mut Reader<'_>,
-    ends: &mut Log<'_, EndRecord>,
-    stretches: &mut Log<'_, Stretch>,
-    text: &mut String,
-) -> Result<(), AllocError>
-    requires end_room { room ends.old ≡ log_room }
-    requires row_room { room stretches.old ≡ log_room }
-    ensures said { OnOk result (string_bytes text.new ≡ string_bytes text.old ++ printed (inside
-        (set_tasks session.entry.run) (R.OrderRule.before (of_rule session.entry.run))
-        (books session.entry ends.old stretches.old) (items reader.old.rest.now))) }
-{
-    while let Some(item) = reader.next() {
-        if step(&mut session, item, ends, stretches, text)? {
-            break;
-        }
-    }
-    finish(session, ends, stretches, text)
 }

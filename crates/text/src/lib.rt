@@ -4,6 +4,7 @@
 mod inside;
 mod line;
 mod outside;
+mod player;
 mod saying;
 mod worked;
 

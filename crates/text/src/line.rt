@@ -1,7 +1,6 @@
 //! The lines that a script says.
 ghost use Rattle.std.specs.Prelude.{◌≡◌, Some};
 ghost use Rattle.text.specs.Lines.{line};
-ghost use Rattle.text.specs.declared.line.Line.{Line as Spoken};
 ghost use Rattle.text.specs.declared.line.Line.TheVariants.{End, Run};
 
 use model::Refusal;
@@ -21,27 +20,19 @@ pub enum Line {
     Run(Stretch),
 }
 
-/// A record that a line is said of.
-pub(crate) trait Said {
-    ghost spoken: { Self → Spoken };
+impl From<EndRecord> for Line {
+    ghost from_gives = { λ end line. line ≡ End end };
 
-    fn line(&self) -> Line
-        ensures value { result ≡ spoken self.now };
-}
-
-impl Said for EndRecord {
-    ghost spoken = { End };
-
-    fn line(&self) -> Line {
-        Line::End(*self)
+    fn from(end: EndRecord) -> Line {
+        Line::End(end)
     }
 }
 
-impl Said for Stretch {
-    ghost spoken = { Run };
+impl From<Stretch> for Line {
+    ghost from_gives = { λ stretch line. line ≡ Run stretch };
 
-    fn line(&self) -> Line {
-        Line::Run(*self)
+    fn from(stretch: Stretch) -> Line {
+        Line::Run(stretch)
     }
 }
 
@@ -55,27 +46,35 @@ impl fmt::Display for Line {
                 write!(f, "refused {number}")
             }
             Line::Bound(task, bound, offset) => write!(f, "bound {task} {bound} {offset}"),
-            Line::End(end) => {
-                let EndRecord {
+            Line::End(
+                EndRecord {
                     task,
                     release,
                     end,
                     given,
                     cause,
-                } = end;
+                },
+            ) => {
                 let mark = match cause {
                     Cause::Finish => "F",
                     Cause::Count => "C",
                 };
                 write!(f, "end {task} {release} {end} {given} {mark}")
             }
-            Line::Run(stretch) => {
-                let Stretch { task, first, ticks } = stretch;
-                match task {
-                    Some(task) => write!(f, "run {task} {first} {ticks}"),
-                    None => write!(f, "run - {first} {ticks}"),
-                }
-            }
+            Line::Run(
+                Stretch {
+                    task: Some(task),
+                    first,
+                    ticks,
+                },
+            ) => write!(f, "run {task} {first} {ticks}"),
+            Line::Run(
+                Stretch {
+                    task: None,
+                    first,
+                    ticks,
+                },
+            ) => write!(f, "run - {first} {ticks}"),
         }
     }
 }

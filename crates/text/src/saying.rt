@@ -3,13 +3,15 @@ ghost use Rattle.std.specs.Prelude.{◌≡◌, [], ◌∷◌, ◌++◌, map, str
 ghost use Rattle.admission.specs.Views.{bounds_of, offsets_of};
 ghost use Rattle.record_log.specs.Records.{records};
 ghost use Rattle.text.specs.Lines.{printed};
-ghost use Rattle.text.specs.Spoken.{bound_lines, loss, losses};
+ghost use Rattle.text.specs.Playing.{Makes};
+ghost use Rattle.text.specs.Spoken.{bound_lines, loss, losses, report_of};
+ghost use Rattle.text.specs.declared.line.Line.{Line};
 
-use crate::line::{Line, Said};
+use crate::line::Line;
 use admission::Accepted;
 use model::Refusal;
 use record_log::Log;
-use script::Lost;
+use script::{Closed, Lost};
 use std::alloc::AllocError;
 
 /// Says a line.
@@ -17,10 +19,7 @@ pub(crate) fn say(text: &mut String, line: Line) -> Result<(), AllocError>
     ensures bytes { OnOk result (string_bytes text.new
         ≡ string_bytes text.old ++ printed (line ∷ [])) }
 {
-    match writeln!(text, "{line}") {
-        Ok(()) => Ok(()),
-        Err(_) => Err(AllocError),
-    }
+    writeln!(text, "{line}")
 }
 
 /// Says that a record is lost, if it is.
@@ -48,21 +47,33 @@ pub(crate) fn say_bounds(text: &mut String, set: &Accepted) -> Result<(), AllocE
     ensures bytes { OnOk result (string_bytes text.new
         ≡ string_bytes text.old ++ printed (bound_lines 0 (bounds_of set.now) (offsets_of set.now))) }
 {
-    let bounds = set.bounds();
     let offsets = set.offsets();
-    for task in 0..bounds.len() {
-        say(text, Line::Bound(task as u32, bounds[task], offsets[task]))?;
+    for (task, bound) in set.bounds().iter().enumerate() {
+        say(text, Line::Bound(task as u32, *bound, offsets[task]))?;
     }
     Ok(())
 }
 
 /// Says every record of a log.
-pub(crate) fn say_records<T: Said>(text: &mut String, log: &Log<'_, T>) -> Result<(), AllocError>
-    ensures bytes { OnOk result (string_bytes text.new
-        ≡ string_bytes text.old ++ printed (map T.Said.spoken (records log.now))) }
+pub(crate) fn say_records<T: Copy + Into<Line>>(
+    text: &mut String,
+    log: &Log<'_, T>,
+) -> Result<(), AllocError>
+    ensures bytes { (line : T → Line) → Makes T.converts line → OnOk result (string_bytes text.new
+        ≡ string_bytes text.old ++ printed (map line (records log.now))) }
 {
     for record in log.as_slice() {
-        say(text, record.line())?;
+        say(text, (*record).into())?;
     }
     Ok(())
+}
+
+/// Says the report of a closed run.
+pub(crate) fn say_report(text: &mut String, closed: &Closed<'_>) -> Result<(), AllocError>
+    ensures bytes { OnOk result (string_bytes text.new ≡ string_bytes text.old ++ printed
+        (report_of closed.now.lost (records closed.now.ends) (records closed.now.stretches))) }
+{
+    say_loss(text, closed.lost)?;
+    say_records(text, &closed.ends)?;
+    say_records(text, &closed.stretches)
 }

@@ -10,21 +10,21 @@ as_long set bounds offsets b o = ap length o ∙ (set.each.2 ∙ sym (ap length 
 
 pub loop-task-preserved : goal.loop-task-preserved
 loop-task-preserved c =
-    let bounds = c.bounds-bounds.result.now in
+    let bounds = c.bounds-bound-items.result.now in
     let offsets = c.offsets-offsets.result.now in
     said_bound bounds offsets c.loop-task.task (string_bytes c.args.text.now) (string_bytes c.loop-task.text)
     (string_bytes c.say.new.text) c.loop-task-test.true
-    (as_long c.args.set.now bounds offsets c.bounds-bounds.ensures.value c.offsets-offsets.ensures.value)
+    (as_long c.args.set.now bounds offsets c.bounds-bound-items.ensures.value c.offsets-offsets.ensures.value)
     c.loop-task.invariant c.in_ok-say.ensures.bytes
 
 pub returns : goal.returns
 returns c =
     let set = c.args.set.now in
-    let bounds = c.bounds-bounds.result.now in
+    let bounds = c.bounds-bound-items.result.now in
     let offsets = c.offsets-offsets.result.now in
     record {
       bytes = said_bounds bounds offsets (bounds_of set) (offsets_of set) c.loop-task.task (string_bytes c.args.text.now)
           (string_bytes c.loop-task.text) c.loop-task-test.false
-          (as_long set bounds offsets c.bounds-bounds.ensures.value c.offsets-offsets.ensures.value)
-          c.bounds-bounds.ensures.value c.offsets-offsets.ensures.value c.loop-task.invariant;
+          (as_long set bounds offsets c.bounds-bound-items.ensures.value c.offsets-offsets.ensures.value)
+          c.bounds-bound-items.ensures.value c.offsets-offsets.ensures.value c.loop-task.invariant;
     }

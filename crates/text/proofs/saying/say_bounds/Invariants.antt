@@ -5,4 +5,4 @@ use Rattle.text.proofs.saying.say_bounds.Given as goal
 
 abbrev pub invariant-loop-task : goal.invariant-loop-task
 invariant-loop-task l =
-    string_bytes l.text ≡ string_bytes l.initial.text ++ printed (bound_lines 0 (take l.task l.bounds) (take l.task l.offsets))
+    string_bytes l.text ≡ string_bytes l.initial.text ++ printed (bound_lines 0 (take l.task l.bound-items) (take l.task l.offsets))

@@ -1,0 +1,25 @@
+use Rattle.std.proofs.Common.{◌≡◌, ◌++◌, length}
+use Rattle.admission.specs.Views.{tasks_of}
+use Rattle.dispatch.specs.Runs.{of_rule, set_tasks}
+use Rattle.script.specs.Sessions.{opened}
+use Rattle.script.specs.Views.{books}
+use Rattle.text.specs.Lines.{printed}
+use Rattle.text.specs.Playing.{left, told}
+use Rattle.text.specs.Spoken.{inside}
+use Rattle.text.proofs.player.Player.play_checked.Given as goal
+
+-- The tasks and the order stay, and what is said with what is left to say stays the same.
+abbrev pub invariant-loop-item : goal.invariant-loop-item
+invariant-loop-item g l =
+    record {
+      tasks : set_tasks l.run.session.run ≡ tasks_of l.fn.checked.set.now;
+      rule : of_rule l.run.session.run ≡ l.fn.checked.rule.now;
+      said :
+          told l.initial.self
+          ++ printed (inside (tasks_of l.fn.checked.set.now) (g.R.OrderRule.before l.fn.checked.rule.now) opened (left l.initial.self))
+          ≡ told l.self
+          ++ printed (inside (tasks_of l.fn.checked.set.now) (g.R.OrderRule.before l.fn.checked.rule.now) (books l.run.session) (left l.self));
+    }
+
+abbrev pub decreases-loop-item : goal.decreases-loop-item
+decreases-loop-item g l = length l.self.reader.rest.now
