@@ -41,8 +41,8 @@ impl<'b> Reader<'b> {
         ensures no_longer { length self.new.rest.now ≤ length self.old.rest.now }
     {
         match byte {
-            0x01 => Ok(Command::Task(Figures::from_bytes(self.operands()?))),
-            0x02 => Ok(Command::Rule(Choice::from_bytes(self.operands()?)?)),
+            0x01 => Ok(Command::Task(Figures::from(self.operands()?))),
+            0x02 => Ok(Command::Rule(Choice::try_from(self.operands()?)?)),
             0x03 => Ok(Command::Start),
             0x10 => {
                 let [task] = self.operands::<1>()?;

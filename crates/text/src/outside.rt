@@ -19,7 +19,7 @@ use crate::saying::{say, say_bounds, say_report};
 use admission::{Accepted, admit};
 use dispatch::Checked;
 use model::Refusal;
-use rules::{Bottom, OrderRule, Weighted};
+use rules::{Bottom, Figure, OrderRule, Weighted};
 use script::{Command, Entered, NO_END, NO_STRETCH, RECORDS, Reader, Setup};
 use std::alloc::{AllocError, Global};
 use tasks::Table;
@@ -103,10 +103,10 @@ impl Entering {
         let table = self.setup.table();
         let choice = self.setup.choice();
         let bottom = Bottom::new(choice.kind, table);
-        let Ok(middle) = Weighted::by_execution(table, choice.execution, &bottom) else {
+        let Ok(middle) = Weighted::over(table, Figure::Execution, choice.execution, &bottom) else {
             unreachable!()
         };
-        let Ok(rule) = Weighted::by_suspension(table, choice.suspension, &middle) else {
+        let Ok(rule) = Weighted::over(table, Figure::Suspension, choice.suspension, &middle) else {
             unreachable!()
         };
         player.test(table, &rule)

@@ -1,14 +1,14 @@
 //! What a call gives to record.
-ghost use Rattle.std.specs.Prelude.{◌≡◌, ◌<◌, length};
+ghost use Rattle.std.specs.Prelude.{◌≡◌, ◌<◌, length, Ok};
 ghost use Rattle.dispatch.specs.Runs.{set_tasks, state};
 ghost use Rattle.record_log.specs.Records.{records, room};
 ghost use Rattle.script.specs.Kept.{SameMemory};
 ghost use Rattle.script.specs.Names.{Named};
-ghost use Rattle.script.specs.Sessions.{end_of, ended_by, noted, outcome, rows, stretch};
+ghost use Rattle.script.specs.Sessions.{end_of, ended_by, noted, rows, stretch};
 
-use crate::records::{Cause, EndRecord, Lost, Row, Stretch, Turn};
+use crate::records::{Cause, EndRecord, Row, Stretch};
 use dispatch::Run;
-use model::{Answer, Refusal, Ticked};
+use model::{Answer, Ticked};
 use record_log::Log;
 use rules::OrderRule;
 
@@ -45,8 +45,8 @@ fn end_of<R: OrderRule>(run: &Run<'_, R>, task: u32, cause: Cause) -> EndRecord
 
 // The end that a call with this answer brought.
 pub(crate) fn ended_by<R: OrderRule>(run: &Run<'_, R>, answer: Answer) -> Option<EndRecord>
-    requires { Named (length (set_tasks run.now)) answer }
-    ensures value { result ≡ ended_by answer (state run.now) }
+    requires { Named (length (set_tasks run.now)) (Ok answer) }
+    ensures value { result ≡ ended_by (Ok answer) (state run.now) }
 {
     match answer {
         Answer::Finished(ended) => Some(end_of(run, ended.task, Cause::Finish)),

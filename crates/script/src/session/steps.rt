@@ -7,7 +7,7 @@ ghost use Rattle.model.specs.State.{start};
 ghost use Rattle.script.specs.Kept.{Kept, SameMemory};
 ghost use Rattle.script.specs.Views.{books, call_in, command_in, settled_in};
 
-use super::notes::{ended_by, note, told, turned};
+use super::notes::{ended_by, note, turned};
 use super::{Closed, Session};
 use crate::command::Command;
 use crate::records::{EndRecord, Lost, Stretch, Turn};
@@ -52,7 +52,7 @@ impl<'s, 'm, R: OrderRule> Session<'s, 'm, R> {
             stretches,
         } = self;
         let clock = run.clock();
-        let answer = run.call(call);
+        let answer = run.call(call)?;
         let end = note(ends, ended_by(run, answer));
         let (stopped, going) = turned(clock, answer, *row);
         *row = going;

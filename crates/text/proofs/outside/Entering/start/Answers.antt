@@ -1,5 +1,5 @@
 use Rattle.std.proofs.Common.{◌≡◌, IfOk, ap, ◌∙◌, w32, to_z, of_z}
-use Rattle.rules.specs.Choices.{bottom_point}
+use Rattle.rules.specs.Kinds.{bottom_point}
 use Rattle.rules.specs.declared.choice.Choice.{Choice}
 use Rattle.tasks.specs.Listed.{listed}
 use Rattle.text.specs.Playing.{Tried}
@@ -18,7 +18,7 @@ returns c =
       tried = chosen
           (λ tasks point before. IfOk c.test.result (Tried tasks point before c.args.player.now c.test.new.self))
           setup.choice (listed c.table-table.result.now) (listed setup.table) _ _ c.new-bottom.result c.in-Ok.middle
-          c.in-Ok-by_suspension.rule (ap listed c.table-table.ensures.value)
+          c.in-Ok-over.rule (ap listed c.table-table.ensures.value)
           (ap (λ (ch : Choice). to_z w32 (of_z w32 ch.execution)) is ∙ light setup.choice.execution fair.0)
           (ap (λ (ch : Choice). to_z w32 (of_z w32 ch.suspension)) is ∙ light setup.choice.suspension fair.1)
           (c.new-bottom.ensures.points ∙ ap (λ (ch : Choice). bottom_point ch.kind (listed c.table-table.result.now)) is) a.1 a.2 b.1 b.2

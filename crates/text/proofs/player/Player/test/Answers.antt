@@ -1,5 +1,4 @@
 use Rattle.std.proofs.Common.{refl}
-use Rattle.tasks.proofs.Invariant.{invariant}
 use Rattle.tasks.specs.Listed.{listed}
 use Rattle.text.proofs.Starts.{agrees, tried_no, tried_yes}
 use Rattle.text.proofs.player.Player.test.Goals as goal
@@ -14,7 +13,7 @@ pub returns-in_ok-play_set-in-Ok : goal.returns-in_ok-play_set-in-Ok
 returns-in_ok-play_set-in-Ok g c =
     let rule = c.args.rule.now in
     record {
-      tried = tried_yes (listed c.args.table.now) (g.R.OrderRule.points rule) (invariant c.args.table.now)
+      tried = tried_yes (listed c.args.table.now) (g.R.OrderRule.points rule) c.args.table.now.fit
           (g.R.OrderRule.before rule) _ _ c.admit.new.place c.in-Ok.ensures.verdict c.in_ok-play_set-in-Ok.ensures.said;
     }
 
@@ -22,7 +21,7 @@ pub returns-in_ok-say-in-Err : goal.returns-in_ok-say-in-Err
 returns-in_ok-say-in-Err g c =
     let rule = c.args.rule.now in
     record {
-      tried = tried_no (listed c.args.table.now) (g.R.OrderRule.points rule) (invariant c.args.table.now)
+      tried = tried_no (listed c.args.table.now) (g.R.OrderRule.points rule) c.args.table.now.fit
           (g.R.OrderRule.before rule) _ _ c.new-set.result c.admit.new.place c.in-Err.refusal c.in-Err.ensures.verdict
           c.in_ok-say-in-Err.ensures.bytes refl;
     }
