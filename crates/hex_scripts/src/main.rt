@@ -6,47 +6,48 @@
 #![tactic(auto)]
 
 mod hexadecimal;
-mod lines;
 
 use hexadecimal::{Fault, decode};
-use lines::Lines;
 use std::alloc::Global;
 use std::io;
 use std::io::{Read, Write};
 
-/// A script as it is read: the bytes of its lines so far, unless one of them was not hexadecimal.
+/// A script as it is read: the bytes of its lines so far; none if one of them was not hexadecimal.
 #[derive(Drop)]
 struct Script {
-    bytes: Vec<u8>,
-    readable: bool,
+    bytes: Option<Vec<u8>>,
 }
 
 impl Script {
     fn new(heap: Global) -> Script {
         Script {
-            bytes: Vec::new(heap),
-            readable: true,
+            bytes: Some(Vec::new(heap)),
         }
     }
 
     /// Reads a line, and prints its number if it is not hexadecimal.
     fn read(&mut self, rt: &HostRuntime, number: usize, line: &[u8]) -> io::Result<()> {
-        match decode(line, &mut self.bytes) {
-            Ok(()) => Ok(()),
-            Err(Fault::NotHexadecimal) => {
-                self.readable = false;
-                println!(rt; "line {number}: not hexadecimal")
+        match decode(rt.alloc(), line) {
+            Ok(read) => {
+                if let Some(bytes) = &mut self.bytes {
+                    bytes.extend_from_slice(&read)?;
+                }
+                Ok(())
             }
             Err(Fault::NoMemory(error)) => Err(error.into()),
+            Err(fault) => {
+                self.bytes = None;
+                println!(rt; "line {number}: {fault}")
+            }
         }
     }
 
     /// Plays the script, and prints its text.
     fn play(self, rt: &HostRuntime) -> io::Result<()> {
-        if !self.readable {
+        let Some(bytes) = self.bytes else {
             return Ok(());
-        }
-        let text = text::play(rt.alloc(), &self.bytes)?;
+        };
+        let text = text::play(rt.alloc(), &bytes)?;
         rt.stdout().write_all(text.as_bytes())
     }
 }
@@ -60,7 +61,7 @@ fn main(rt: HostRuntime) -> io::Result<()> {
     let mut input = Vec::new(rt.alloc());
     rt.stdin().read_to_end(&mut input)?;
     let mut script = Script::new(rt.alloc());
-    for (number, line) in (1usize..).zip(Lines::new(&input)) {
+    for (number, line) in (1usize..).zip(input.split(|byte| *byte == b'\n')) {
         if line.starts_with(b"=") {
             script.play(&rt)?;
             script = Script::new(rt.alloc());
