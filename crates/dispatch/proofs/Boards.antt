@@ -8,7 +8,7 @@ use Rattle.model.specs.Figures.{most_tasks, no_task}
 use Rattle.model.specs.State.{State, job, is_ready, is_waiting, no_job, put, start}
 use Rattle.model.specs.declared.figures.Figures.{Figures}
 use Rattle.model.specs.declared.job.Job.{Job}
-use Rattle.words.proofs.Bits.{has_zero}
+use Rattle.words.proofs.Digits.{has_zero}
 use Rattle.words.specs.Bits.{has}
 use Rattle.dispatch.specs.Sound.{Sound, in_bounds, state_of}
 use Rattle.dispatch.specs.declared.board.Board.{Board}

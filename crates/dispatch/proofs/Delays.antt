@@ -6,7 +6,7 @@ use Rattle.model.specs.Machine.{counted, overdue, ticked}
 use Rattle.model.specs.State.{State, job, no_job, put}
 use Rattle.model.specs.declared.figures.Figures.{Figures}
 use Rattle.model.specs.declared.job.Job.{Job}
-use Rattle.words.proofs.Bits.{has_zero}
+use Rattle.words.proofs.Digits.{has_zero}
 use Rattle.words.specs.Bits.{has}
 use Rattle.dispatch.proofs.Boards.{state_is}
 use Rattle.dispatch.specs.Sound.{Sound, state_of}

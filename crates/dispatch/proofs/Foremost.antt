@@ -8,7 +8,7 @@ use Rattle.model.specs.ProcessorLaw.{Foremost, Rightful}
 use Rattle.model.specs.State.{State, identity, is_ready, job}
 use Rattle.model.specs.declared.figures.Figures.{Figures}
 use Rattle.model.specs.declared.job.JobId.{JobId}
-use Rattle.words.proofs.Bits.{has_zero}
+use Rattle.words.proofs.Digits.{has_zero}
 use Rattle.words.specs.Bits.{has}
 use Rattle.dispatch.proofs.Outside.{open_inside, ready_opens}
 use Rattle.dispatch.specs.Sound.{Chosen, Sound, state_of}

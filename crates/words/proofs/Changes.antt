@@ -1,13 +1,14 @@
 -- The lowest set bit, and a word with one bit more or less.
-use Rattle.std.proofs.Common.{◌≡◌, ℕ, zero, suc, ◌-◌, ◌/◌, ◌%◌, ◌^◌, ◌<◌, ◌≤◌, Bool, true, false, not, ◌&&◌, ◌||◌, eqb, sym, refl, ap, ◌∙◌, ap₂, ⊎_elim, arith}
+use Rattle.std.proofs.Common.{◌≡◌, ℕ, zero, suc, ◌-◌, ◌*◌, ◌/◌, ◌%◌, ◌^◌, ◌<◌, ◌≤◌, Bool, true, false, not, ◌&&◌, ◌||◌, eqb, sym, refl, ap, ◌∙◌, ap₂, ⊎_elim, arith}
 use native.Mathlib.Nat.{pow-succ'}
 use lib.Bits.{bit_or, or_step}
 use lib.Count.{count_trailing_zeros, under}
 use lib.Dec.{eqb-zero-suc, eqb-suc-zero, eqb-suc-suc}
 use Rattle.std.proofs.lemmas.Bool.{both_ways, cases_lt}
 use Rattle.std.proofs.lemmas.Bool.Decides.{nat_tests}
+use Rattle.std.proofs.lemmas.Nat.{one_shl}
 use Rattle.words.specs.Bits.{has}
-use Rattle.words.proofs.Bits.{has_first, has_suc, has_zero, has_small}
+use Rattle.words.proofs.Digits.{has_first, has_suc, has_zero, has_small}
 
 -- Bit k of w is its lowest set bit, below m.
 abbrev LowestIn : ℕ → ℕ → ℕ → Type 0
@@ -76,6 +77,14 @@ has_cleared (suc k) w h (suc j) =
     has_suc (w - 2 ^ suc k) j ∙ ap (λ (x : ℕ). has x j) rest ∙ has_cleared k (w / 2) (sym (has_suc w k) ∙ h) j
     ∙ sym (ap₂ (λ a b. a && not b) (has_suc w j) (eqb-suc-suc j k))
 
+-- A set bit taken off a word of 32 bits leaves the other bits.
+module _ (w k : ℕ) (fits : w < 2 ^ 32) (h : has w k ≡ true) where
+  shifted : 1 * 2 ^ k % 2 ^ 32 ≡ 2 ^ k
+  shifted = one_shl k 32 (has_inside w k fits h)
+
+  pub taken_off : (j : ℕ) → has (w - 1 * 2 ^ k % 2 ^ 32) j ≡ (has w j && not (eqb j k))
+  taken_off j = simp shifted (has_cleared k w h j)
+
 -- A power of two has one bit.
 has_power : (k j : ℕ) → has (2 ^ k) j ≡ eqb j k
 has_power zero zero = refl
@@ -100,6 +109,6 @@ has_or (suc j) a b =
     has_suc (bit_or a b) j ∙ ap (λ (x : ℕ). has x j) rest ∙ has_or j (a / 2) (b / 2)
     ∙ sym (ap₂ (λ x y. x || y) (has_suc a j) (has_suc b j))
 
--- A power of two put in leaves the other bits.
-pub has_marked : (k w j : ℕ) → has (bit_or w (2 ^ k)) j ≡ (has w j || eqb j k)
-has_marked k w j = has_or j w (2 ^ k) ∙ ap (λ b. has w j || b) (has_power k j)
+-- A bit put into a word leaves the other bits.
+pub has_marked : (w k : ℕ) → k < 32 → (j : ℕ) → has (bit_or w (1 * 2 ^ k % 2 ^ 32)) j ≡ (has w j || eqb j k)
+has_marked w k h j = simp (one_shl k 32 h) (has_or j w (2 ^ k) ∙ ap (λ b. has w j || b) (has_power k j))

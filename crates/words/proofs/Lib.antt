@@ -1,3 +1,3 @@
-pub mod Bits
+pub mod Digits
 pub mod Changes
 pub mod Words

@@ -5,7 +5,7 @@ use lib.Dec.{leb-suc-zero, leb-suc-suc, leb-zero}
 use Rattle.std.proofs.lemmas.Bool.Decides.{nat_tests}
 use Rattle.model.specs.Words.{word}
 use Rattle.words.specs.Bits.{has}
-use Rattle.words.proofs.Bits.{has_first, has_suc, has_zero, same_bits}
+use Rattle.words.proofs.Digits.{has_first, has_suc, has_zero, same_bits}
 
 doubled : (b : Bool) (n : ℕ) → cond b (2 ^ suc n) 0 ≡ 2 * cond b (2 ^ n) 0
 doubled true n = pow-succ' 2 n

@@ -1,5 +1,5 @@
 use Rattle.words.proofs.Changes.{has_or}
-use Rattle.words.proofs.merged.Goals as goal
+use Rattle.words.proofs.union.Goals as goal
 
 pub returns : goal.returns
 returns c = record { bits = λ j. has_or j c.args.a c.args.b }
