@@ -1,31 +1,27 @@
 -- The words that a board keeps, as the machine answers them.
 use Rattle.std.proofs.Common.{◌≡◌, ℕ, Bool, true, false, ◌&&◌, ◌||◌, ltb, List, length, sym, refl, ap, ◌∙◌, ⊎_elim}
 use Rattle.std.proofs.lemmas.Bool.{and_right, cases_Bool, lt-ltb}
-use Rattle.model.specs.State.{is_open, is_ready, is_waiting, job}
+use Rattle.model.specs.State.{State, is_open, is_ready, is_waiting, job}
 use Rattle.model.specs.Words.{word}
 use Rattle.model.specs.declared.figures.Figures.{Figures}
 use Rattle.model.specs.declared.job.Phase.{Phase}
 use Rattle.model.specs.declared.job.Phase.TheVariants.{Closed, Ready, Waiting}
 use Rattle.words.proofs.Words.{word_unique}
-use Rattle.words.specs.Bits.{has}
 use Rattle.dispatch.proofs.Outside.{open_inside}
-use Rattle.dispatch.specs.Sound.{Sound, state_of}
-use Rattle.dispatch.specs.declared.board.Board.{Board}
+use Rattle.dispatch.specs.Sound.{AllInBounds, WordOf}
 
 -- A word of phases that are open is the word of the tasks in them.
-module _ (tasks : List Figures) (b : Board) (sound : Sound tasks b) (test : Phase → Bool) (opens : (p : Phase) → test p ≡ true
+module _ (tasks : List Figures) (s : State) (sound : AllInBounds tasks s) (test : Phase → Bool) (opens : (p : Phase) → test p ≡ true
     → is_open p ≡ true) where
-  pub word_of : (w : ℕ) → ((i : ℕ) → has w i ≡ test (job (state_of b) i).phase) → w ≡ word (length tasks) (λ i. test (job
-      (state_of b) i).phase)
+  pub word_of : (w : ℕ) → WordOf test s w → w ≡ word (length tasks) (λ i. test (job s i).phase)
   word_of w bits =
-      word_unique (length tasks) w (λ i. test (job (state_of b) i).phase)
+      word_unique (length tasks) w (λ i. test (job s i).phase)
       (λ i.
       bits i ∙ ⊎_elim
-      (λ (h : test (job (state_of b) i).phase ≡ true).
-      sym (ap (λ (t : Bool). t && test (job (state_of b) i).phase) (lt-ltb i (length tasks) (open_inside tasks b sound i (opens (job
-      (state_of b) i).phase h)))))
-      (λ (h : test (job (state_of b) i).phase ≡ false). h ∙ sym (and_right (ltb i (length tasks)) (test (job (state_of b) i).phase) h))
-      (cases_Bool (test (job (state_of b) i).phase)))
+      (λ (h : test (job s i).phase ≡ true).
+      sym (ap (λ (t : Bool). t && test (job s i).phase) (lt-ltb i (length tasks) (open_inside tasks s sound i (opens (job s i).phase h)))))
+      (λ (h : test (job s i).phase ≡ false). h ∙ sym (and_right (ltb i (length tasks)) (test (job s i).phase) h))
+      (cases_Bool (test (job s i).phase)))
 
 -- A phase is open if it is ready or waiting.
 pub open_is : (p : Phase) → (is_ready p || is_waiting p) ≡ is_open p

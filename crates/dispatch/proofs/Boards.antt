@@ -1,17 +1,18 @@
--- The board of a new run, and a board in which one record changed.
-use Rattle.std.proofs.Common.{◌≡◌, ℕ, zero, suc, ◌<◌, Bool, true, false, cond, eqb, ◌≢◌, List, length, get_or, set, replicate, Some, None, Option, unwrap_or, sym, refl, ap, ◌∙◌, subst, ⊎_elim, arith, length-set}
+-- The board of a new run, and a state in which one record changed.
+use Rattle.std.proofs.Common.{◌≡◌, ℕ, zero, suc, ◌<◌, Bool, true, false, cond, eqb, ◌≢◌, List, length, get_or, set, replicate, Some, None, Option, unwrap_or, sym, refl, ap, ◌∙◌, subst, ⊎_elim, arith}
 use mathlib.Core.Path.{fun_ext}
 use Rattle.std.proofs.lemmas.List.{get_or-set_same, get_or-set_other}
-use Rattle.std.proofs.lemmas.Bool.{cases_eq}
+use Rattle.std.proofs.lemmas.Bool.{cases_eq, eqb-true}
 use Rattle.std.proofs.lemmas.Bool.Decides.{nat_tests}
 use Rattle.model.specs.Figures.{most_tasks, no_task}
-use Rattle.model.specs.State.{State, job, is_ready, is_waiting, no_job, put, start}
+use Rattle.model.specs.State.{State, no_job, put, start}
 use Rattle.model.specs.declared.figures.Figures.{Figures}
 use Rattle.model.specs.declared.job.Job.{Job}
+use Rattle.model.specs.declared.job.Phase.{Phase}
+use Rattle.model.specs.declared.job.Phase.TheVariants.{Closed}
 use Rattle.words.proofs.Digits.{has_zero}
 use Rattle.words.specs.Bits.{has}
-use Rattle.dispatch.specs.Sound.{Sound, in_bounds, state_of}
-use Rattle.dispatch.specs.declared.board.Board.{Board}
+use Rattle.dispatch.specs.Sound.{AllInBounds, WordOf, in_bounds, state_at}
 
 -- An element after one was set.
 pub get_or_set : {A : Type 0} (xs : List A) (k : ℕ) (x d : A) (i : ℕ) → k < length xs → get_or (set xs k x) i d ≡ cond (eqb i k) x (get_or xs i d)
@@ -25,67 +26,48 @@ get_or_set xs k x d i h =
     get_or-set_other xs k i x d other ∙ sym (simp t))
     (cases_eq i k)
 
--- No record of a new board holds a job.
-none_at : (n i : ℕ) → ◌≡◌ {A = Option Job} (get_or (replicate n None) i None) None
-none_at zero i = refl
-none_at (suc n) zero = refl
-none_at (suc n) (suc i) = none_at n i
-
 pub state_is : (m n : ℕ) (f g : ℕ → Option Job) → m ≡ n → ((i : ℕ) → f i ≡ g i) → ◌≡◌ {A = State} (record { clock = m; latest = f })
     (record { clock = n; latest = g })
 state_is m n f g p q =
     let made : ℕ → (ℕ → Option Job) → State = λ c l. record { clock = c; latest = l } in
     ap (λ (c : ℕ). made c f) p ∙ ap (made n) (fun_ext q)
 
-module _ (b : Board) (clock : b.clock ≡ 0) (jobs : b.jobs ≡ replicate most_tasks None) (ready : b.ready ≡ 0)
-    (waiting : b.waiting ≡ 0) where
-  nothing : (i : ℕ) → get_or b.jobs i None ≡ None
-  nothing i = ap (λ (js : List (Option Job)). get_or js i None) jobs ∙ none_at most_tasks i
+-- No record of a new board holds a job.
+none_at : (n i : ℕ) → ◌≡◌ {A = Option Job} (get_or (replicate n None) i None) None
+none_at zero i = refl
+none_at (suc n) zero = refl
+none_at (suc n) (suc i) = none_at n i
 
-  pub new_state : state_of b ≡ start
-  new_state = state_is b.clock 0 (λ i. get_or b.jobs i None) (λ i. None) clock nothing
+pub new_state : state_at 0 (replicate most_tasks None) ≡ start
+new_state = state_is 0 0 (λ i. get_or (replicate most_tasks None) i None) (λ i. None) refl (none_at most_tasks)
 
-  pub new_sound : (tasks : List Figures) → Sound tasks b
-  new_sound tasks = (
-    ap length jobs,
-    omega arith,
-    (λ i. ap (in_bounds (get_or tasks i no_task) b.clock) (nothing i)),
-    (λ i. ap (λ (w : ℕ). has w i) ready ∙ (has_zero i ∙ sym (ap (λ (o : Option Job). is_ready (unwrap_or o no_job).phase) (nothing i)))),
-    (λ i. ap (λ (w : ℕ). has w i) waiting ∙ (has_zero i ∙ sym (ap (λ (o : Option Job). is_waiting (unwrap_or o no_job).phase) (nothing i)))),
-  )
+pub new_in_bounds : (tasks : List Figures) → AllInBounds tasks (state_at 0 (replicate most_tasks None))
+new_in_bounds tasks = subst (AllInBounds tasks) (sym new_state) (λ i. refl)
 
--- Where one record was put: the state, and soundness if the job is in bounds.
-module _ (tasks : List Figures) (b after : Board) (task : ℕ) (j : Job) (within : task < most_tasks)
-    (clock : after.clock ≡ b.clock) (jobs : after.jobs ≡ set b.jobs task (Some j))
-    (ready : (i : ℕ) → has after.ready i ≡ cond (eqb i task) (is_ready j.phase) (has b.ready i))
-    (waiting : (i : ℕ) → has after.waiting i ≡ cond (eqb i task) (is_waiting j.phase) (has b.waiting i))
-    (sound : Sound tasks b) where
-  at : (i : ℕ) → get_or after.jobs i None ≡ cond (eqb i task) (Some j) (get_or b.jobs i None)
-  at i = ap (λ (js : List (Option Job)). get_or js i None) jobs ∙ get_or_set b.jobs task (Some j) None i (omega (arith, sound.0))
+pub new_word : (test : Phase → Bool) → test Closed ≡ false → WordOf test (state_at 0 (replicate most_tasks None)) 0
+new_word test closed = subst (λ (s : State). WordOf test s 0) (sym new_state) (λ i. has_zero i ∙ sym closed)
 
-  pub put_state : state_of after ≡ put task j (state_of b)
-  put_state = state_is after.clock b.clock (λ i. get_or after.jobs i None) (put task j (state_of b)).latest clock at
+-- A record that is set is a job that is put.
+pub set_state : (clock : ℕ) (jobs : List (Option Job)) (task : ℕ) (j : Job) → task < length jobs
+    → state_at clock (set jobs task (Some j)) ≡ put task j (state_at clock jobs)
+set_state clock jobs task j h =
+    state_is clock clock (λ i. get_or (set jobs task (Some j)) i None) (put task j (state_at clock jobs)).latest refl (λ i. get_or_set
+    jobs task (Some j) None i h)
 
-  bounded : (i : ℕ) (t : Bool) → eqb i task ≡ t → in_bounds (get_or tasks task no_task) b.clock (Some j) ≡ true
-      → in_bounds (get_or tasks i no_task) b.clock (cond t (Some j) (get_or b.jobs i None)) ≡ true
-  bounded i true e h = let same : i ≡ task = grind (arith, nat_tests) in subst (λ (k : ℕ). in_bounds (get_or tasks k no_task) b.clock
-      (Some j) ≡ true) (sym same) h
-  bounded i false e h = sound.2 i
+-- What held of the jobs of a state still holds once a job is put.
+module _ (task : ℕ) (j : Job) (s : State) where
+  pub put_in_bounds : (tasks : List Figures) → AllInBounds tasks s → in_bounds (get_or tasks task no_task) s.clock (Some j) ≡ true
+      → AllInBounds tasks (put task j s)
+  put_in_bounds tasks sound h i = go (eqb i task) refl
+    where
+      go : (t : Bool) → eqb i task ≡ t → in_bounds (get_or tasks i no_task) s.clock (cond t (Some j) (s.latest i)) ≡ true
+      go true e = subst (λ (k : ℕ). in_bounds (get_or tasks k no_task) s.clock (Some j) ≡ true) (sym (eqb-true i task e)) h
+      go false e = sound i
 
-  worded : (test : Job → Bool) (w v : ℕ) → ((i : ℕ) → has w i ≡ test (job (state_of b) i))
-      → ((i : ℕ) → has v i ≡ cond (eqb i task) (test j) (has w i)) → (i : ℕ) → has v i ≡ test (job (state_of after) i)
-  worded test w v old new i =
-      let split : (t : Bool) → cond t (test j) (has w i) ≡ test (unwrap_or (cond t (Some j) (get_or b.jobs i None)) no_job) =
-      λ t. elim t as (λ x. cond x (test j) (has w i) ≡ test (unwrap_or (cond x (Some j) (get_or
-      b.jobs i None)) no_job)) [ true ↦ refl | false ↦ old i ] in
-      new i ∙ (split (eqb i task) ∙ sym (ap (λ (o : Option Job). test (unwrap_or o no_job)) (at i)))
-
-  pub put_sound : in_bounds (get_or tasks task no_task) b.clock (Some j) ≡ true → Sound tasks after
-  put_sound h = (
-    ap length jobs ∙ (length-set b.jobs task (Some j) ∙ sound.0),
-    omega (arith, sound.1),
-    (λ i. subst (λ (c : ℕ). in_bounds (get_or tasks i no_task) c (get_or after.jobs i None) ≡ true) (sym clock)
-        (subst (λ (o : Option Job). in_bounds (get_or tasks i no_task) b.clock o ≡ true) (sym (at i)) (bounded i (eqb i task) refl h))),
-    worded (λ k. is_ready k.phase) b.ready after.ready sound.3 ready,
-    worded (λ k. is_waiting k.phase) b.waiting after.waiting sound.4 waiting,
-  )
+  pub put_word : (test : Phase → Bool) (w v : ℕ) → WordOf test s w → ((i : ℕ) → has v i ≡ cond (eqb i task) (test j.phase) (has w i))
+      → WordOf test (put task j s) v
+  put_word test w v old new i = new i ∙ go (eqb i task)
+    where
+      go : (t : Bool) → cond t (test j.phase) (has w i) ≡ test (unwrap_or (cond t (Some j) (s.latest i)) no_job).phase
+      go true = refl
+      go false = old i

@@ -1,5 +1,5 @@
 -- The walk of the waiting jobs, each of which waits one tick more.
-use Rattle.std.proofs.Common.{◌≡◌, ℕ, Bool, true, false, cond, not, ◌&&◌, ◌||◌, eqb, List, get_or, Some, None, Option, unwrap_or, sym, refl, ap, ◌∙◌, subst, ⊎_elim}
+use Rattle.std.proofs.Common.{◌≡◌, ℕ, Bool, true, false, cond, not, ◌&&◌, ◌||◌, eqb, List, get_or, Some, Option, unwrap_or, sym, refl, ap, ◌∙◌, subst, ⊎_elim}
 use Rattle.std.proofs.lemmas.Bool.{and_from, and_left, and_parts, and_right, cases_eq, cond-false, cond-true, eq-eqb, ne_eqb, not_from_false, not_from_true}
 use Rattle.model.specs.Figures.{no_task}
 use Rattle.model.specs.Machine.{counted, overdue, ticked}
@@ -9,9 +9,7 @@ use Rattle.model.specs.declared.job.Job.{Job}
 use Rattle.words.proofs.Digits.{has_zero}
 use Rattle.words.specs.Bits.{has}
 use Rattle.dispatch.proofs.Boards.{state_is}
-use Rattle.dispatch.specs.Sound.{Sound, state_of}
 use Rattle.dispatch.specs.Ticks.{delayed_state}
-use Rattle.dispatch.specs.declared.board.Board.{Board}
 
 -- The number is in the first word and no more in the second.
 abbrev pub met : ℕ → ℕ → ℕ → Bool
@@ -19,13 +17,12 @@ met all rest i = has all i && not (has rest i)
 
 -- A walk of a word that has still to meet the numbers in `rest`: the jobs that it met have waited one tick more, and those of them that
 -- are overdue make the word `forced`.
-pub record Delaying (tasks : List Figures) (from at : Board) (all rest forced : ℕ) : Type 0 where
-  pub sound : Sound tasks at
+pub record Delaying (tasks : List Figures) (from at : State) (all rest forced : ℕ) : Type 0 where
   pub clock : at.clock ≡ from.clock
   pub left : (i : ℕ) → has rest i ≡ true → has all i ≡ true
-  pub latest : (i : ℕ) → get_or at.jobs i None
-      ≡ cond (met all rest i) (Some (ticked (get_or tasks i no_task) false (job (state_of from) i))) (get_or from.jobs i None)
-  pub word : (i : ℕ) → has forced i ≡ (met all rest i && overdue (get_or tasks i no_task) (counted false (job (state_of from) i)))
+  pub latest : (i : ℕ) → at.latest i
+      ≡ cond (met all rest i) (Some (ticked (get_or tasks i no_task) false (job from i))) (from.latest i)
+  pub word : (i : ℕ) → has forced i ≡ (met all rest i && overdue (get_or tasks i no_task) (counted false (job from i)))
 
 none_met : (b : Bool) → (b && not b) ≡ false
 none_met true = refl
@@ -40,34 +37,32 @@ or_false true = refl
 or_false false = refl
 
 -- The record of a task, if it was met and if not.
-abbrev record_of : List Figures → Board → ℕ → Bool → Option Job
-record_of tasks from i t = cond t (Some (ticked (get_or tasks i no_task) false (job (state_of from) i))) (get_or from.jobs i None)
+abbrev record_of : List Figures → State → ℕ → Bool → Option Job
+record_of tasks from i t = cond t (Some (ticked (get_or tasks i no_task) false (job from i))) (from.latest i)
 
 -- Whether the job of a task is overdue after one more tick of waiting.
-abbrev late : List Figures → Board → ℕ → Bool
-late tasks from i = overdue (get_or tasks i no_task) (counted false (job (state_of from) i))
+abbrev late : List Figures → State → ℕ → Bool
+late tasks from i = overdue (get_or tasks i no_task) (counted false (job from i))
 
-pub delaying_none : (tasks : List Figures) (b : Board) (all : ℕ) → Sound tasks b → Delaying tasks b b all all 0
-delaying_none tasks b all sound = record {
-  sound = sound;
+pub delaying_none : (tasks : List Figures) (s : State) (all : ℕ) → Delaying tasks s s all all 0
+delaying_none tasks s all = record {
   clock = refl;
   left = λ i h. h;
-  latest = λ i. sym (ap (record_of tasks b i) (none_met (has all i)));
-  word = λ i. has_zero i ∙ sym (ap (λ (t : Bool). t && late tasks b i) (none_met (has all i)));
+  latest = λ i. sym (ap (record_of tasks s i) (none_met (has all i)));
+  word = λ i. has_zero i ∙ sym (ap (λ (t : Bool). t && late tasks s i) (none_met (has all i)));
 }
 
-module _ (tasks : List Figures) (from at : Board) (all rest forced : ℕ) (d : Delaying tasks from at all rest forced) (k : ℕ)
+module _ {tasks : List Figures} {from at : State} {all rest forced : ℕ} (d : Delaying tasks from at all rest forced) (k : ℕ)
     (here : has rest k ≡ true) where
   not_met : met all rest k ≡ false
   not_met = and_right (has all k) (not (has rest k)) (not_from_true (has rest k) here)
 
   -- A job that the walk has still to meet is as it was.
-  pub unmet : job (state_of at) k ≡ job (state_of from) k
+  pub unmet : job at k ≡ job from k
   unmet = ap (λ (o : Option Job). unwrap_or o no_job) (d.latest k ∙ ap (record_of tasks from k) not_met)
 
   -- The walk meets the job: it waits one tick more.
-  module _ (next : Board) (less new : ℕ) (sound : Sound tasks next)
-      (state : state_of next ≡ put k (ticked (get_or tasks k no_task) false (job (state_of at) k)) (state_of at))
+  module _ (next : State) (less new : ℕ) (state : next ≡ put k (ticked (get_or tasks k no_task) false (job at k)) at)
       (cleared : (i : ℕ) → has less i ≡ (has rest i && not (eqb i k)))
       (marked : (i : ℕ) → has new i ≡ (has forced i || (eqb i k && late tasks at k))) where
     met_here : met all less k ≡ true
@@ -80,14 +75,13 @@ module _ (tasks : List Figures) (from at : Board) (all rest forced : ℕ) (d : D
         ap (λ (t : Bool). has all i && not t)
         (cleared i ∙ (ap (λ (t : Bool). has rest i && not t) (ne_eqb i k apart) ∙ and_true (has rest i)))
 
-    latest_now : (i : ℕ) → get_or next.jobs i None
-        ≡ cond (eqb i k) (Some (ticked (get_or tasks k no_task) false (job (state_of at) k))) (get_or at.jobs i None)
+    latest_now : (i : ℕ) → next.latest i ≡ cond (eqb i k) (Some (ticked (get_or tasks k no_task) false (job at k))) (at.latest i)
     latest_now i = ap (λ (s : State). s.latest i) state
 
-    latest_here : get_or next.jobs k None ≡ record_of tasks from k (met all less k)
+    latest_here : next.latest k ≡ record_of tasks from k (met all less k)
     latest_here =
         latest_now k
-        ∙ (cond-true (eqb k k) (Some (ticked (get_or tasks k no_task) false (job (state_of at) k))) (get_or at.jobs k None) (eq-eqb k k refl)
+        ∙ (cond-true (eqb k k) (Some (ticked (get_or tasks k no_task) false (job at k))) (at.latest k) (eq-eqb k k refl)
         ∙ (ap (λ (j : Job). Some (ticked (get_or tasks k no_task) false j)) unmet ∙ sym (ap (record_of tasks from k) met_here)))
 
     word_here : has new k ≡ (met all less k && late tasks from k)
@@ -100,16 +94,14 @@ module _ (tasks : List Figures) (from at : Board) (all rest forced : ℕ) (d : D
 
     pub delaying_more : Delaying tasks from next all less new
     delaying_more = record {
-      sound = sound;
       clock = ap (λ (s : State). s.clock) state ∙ d.clock;
       left = λ i h. d.left i (and_parts (has rest i) (not (eqb i k)) (sym (cleared i) ∙ h)).0;
       latest = λ i.
           ⊎_elim
-          (λ (same : i ≡ k). subst (λ (m : ℕ). get_or next.jobs m None ≡ record_of tasks from m (met all less m)) (sym same) latest_here)
+          (λ (same : i ≡ k). subst (λ (m : ℕ). next.latest m ≡ record_of tasks from m (met all less m)) (sym same) latest_here)
           (λ (other : i ≡ k → ⊥).
           latest_now i
-          ∙ (cond-false (eqb i k) (Some (ticked (get_or tasks k no_task) false (job (state_of at) k))) (get_or at.jobs i None)
-          (ne_eqb i k other)
+          ∙ (cond-false (eqb i k) (Some (ticked (get_or tasks k no_task) false (job at k))) (at.latest i) (ne_eqb i k other)
           ∙ (d.latest i ∙ sym (ap (record_of tasks from i) (met_else i other)))))
           (cases_eq i k);
       word = λ i.
@@ -122,13 +114,13 @@ module _ (tasks : List Figures) (from at : Board) (all rest forced : ℕ) (d : D
           (cases_eq i k);
     }
 
-module _ (tasks : List Figures) (from at : Board) (all rest forced : ℕ) (d : Delaying tasks from at all rest forced) (over : rest ≡ 0) where
+module _ {tasks : List Figures} {from at : State} {all rest forced : ℕ} (d : Delaying tasks from at all rest forced) (over : rest ≡ 0) where
   all_met : (i : ℕ) → met all rest i ≡ has all i
   all_met i = ap (λ (t : Bool). has all i && not t) (ap (λ (w : ℕ). has w i) over ∙ has_zero i) ∙ and_true (has all i)
 
-  pub delayed_all : state_of at ≡ delayed_state tasks (has all) (state_of from)
+  pub delayed_all : at ≡ delayed_state tasks (has all) from
   delayed_all =
-      state_is at.clock from.clock (λ i. get_or at.jobs i None) (λ i. record_of tasks from i (has all i)) d.clock
+      state_is at.clock from.clock at.latest (λ i. record_of tasks from i (has all i)) d.clock
       (λ i. d.latest i ∙ ap (record_of tasks from i) (all_met i))
 
   pub forced_all : (i : ℕ) → has forced i ≡ (has all i && late tasks from i)

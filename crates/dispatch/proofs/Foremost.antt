@@ -1,6 +1,7 @@
 -- The ready job that goes before all others, found by a walk of the word of the ready tasks.
 use Rattle.std.proofs.Common.{◌≡◌, ℕ, ◌<◌, Bool, true, false, not, ◌&&◌, eqb, List, length, ℤ, Some, None, Option, sym, refl, ap, ◌∙◌, subst, ⊎_elim}
 use Rattle.std.proofs.lemmas.Bool.{and_cases, and_left, and_parts, and_right, both_ways, cases_eq, eq-eqb, eqb-true, not-false, not_from_true}
+use Rattle.std.specs.Option.{option_map}
 use Rattle.model.proofs.Processor.{processor_law}
 use Rattle.model.specs.Orders.{Lawful}
 use Rattle.model.specs.Processor.{processor}
@@ -11,8 +12,7 @@ use Rattle.model.specs.declared.job.JobId.{JobId}
 use Rattle.words.proofs.Digits.{has_zero}
 use Rattle.words.specs.Bits.{has}
 use Rattle.dispatch.proofs.Outside.{open_inside, ready_opens}
-use Rattle.dispatch.specs.Sound.{Chosen, Sound, state_of}
-use Rattle.dispatch.specs.declared.board.Board.{Board}
+use Rattle.dispatch.specs.Sound.{AllInBounds, WordOf}
 
 -- Of the ready tasks met so far, those in the word ready and not in the word rest, the job of this one goes before all others.
 pub record Leads (before : JobId → JobId → Bool) (s : State) (ready rest : ℕ) (first : JobId) : Type 0 where
@@ -103,41 +103,36 @@ module _ {point : ℕ → ℤ} {before : JobId → JobId → Bool} (lawful : Law
     }
 
 -- At the end of the walk every ready job was met.
-module _ {point : ℕ → ℤ} {before : JobId → JobId → Bool} (lawful : Lawful point before) (tasks : List Figures) (b : Board)
-    (sound : Sound tasks b) {rest : ℕ} {best : Option JobId} (walked : Walked before (state_of b) b.ready rest best)
-    (over : rest ≡ 0) where
-  in_the_set : (i : ℕ) → is_ready (job (state_of b) i).phase ≡ true → i < length tasks
-  in_the_set i r = open_inside tasks b sound i (ready_opens (job (state_of b) i).phase r)
+module _ {point : ℕ → ℤ} {before : JobId → JobId → Bool} (lawful : Lawful point before) (tasks : List Figures) (s : State)
+    (sound : AllInBounds tasks s) {ready rest : ℕ} (word : WordOf is_ready s ready) {best : Option JobId}
+    (walked : Walked before s ready rest best) (over : rest ≡ 0) where
+  in_the_set : (i : ℕ) → is_ready (job s i).phase ≡ true → i < length tasks
+  in_the_set i r = open_inside tasks s sound i (ready_opens (job s i).phase r)
 
   all_met : (j : ℕ) → has rest j ≡ false
   all_met j = subst (λ (w : ℕ). has w j ≡ false) (sym over) (has_zero j)
 
-  module _ {first : JobId} (is : best ≡ Some first) where
-    leader : Leads before (state_of b) b.ready rest first
-    leader = subst (Best before (state_of b) b.ready rest) is walked.lead
-
-    foremost : Foremost tasks before (state_of b) first.task
-    foremost =
-        let r = sym (sound.3 first.task) ∙ leader.there in
-        record {
-          of_the_set = in_the_set first.task r;
-          ready = r;
-          first = λ j l h apart.
-              subst (λ (a : JobId). before a (identity (state_of b) j) ≡ true) leader.its
-              (leader.ahead j (sound.3 j ∙ h) (all_met j) apart);
-        }
-
-    -- The job that leads has the processor.
-    pub leader_runs : (Some first.task ≡ processor tasks before (state_of b)) × Chosen tasks (state_of b) (Some first.task)
-    leader_runs =
-        (sym ((processor_law point before lawful tasks (state_of b)).1 first.task foremost), (foremost.of_the_set, foremost.ready))
-
-  -- If no job leads, none has the processor.
-  pub none_runs : best ≡ None → None ≡ processor tasks before (state_of b)
-  none_runs is = go (processor tasks before (state_of b)) (processor_law point before lawful tasks (state_of b)).0
+  -- The job that leads has the processor; if none leads, none has it.
+  pub best_runs : option_map (λ (a : JobId). a.task) best ≡ processor tasks before s
+  best_runs = go best refl
     where
-      go : (o : Option ℕ) → Rightful tasks before (state_of b) o → None ≡ o
-      go None idle = refl
-      go (Some i) f =
-          let left = subst (Best before (state_of b) b.ready rest) is walked.lead i (sound.3 i ∙ f.ready) in
+      idle : best ≡ None → (o : Option ℕ) → Rightful tasks before s o → None ≡ o
+      idle is None f = refl
+      idle is (Some i) f =
+          let left = subst (Best before s ready rest) is walked.lead i (word i ∙ f.ready) in
           absurd (both_ways (has rest i) (all_met i) left)
+
+      foremost : (first : JobId) → Leads before s ready rest first → Foremost tasks before s first.task
+      foremost first leader =
+          let r = sym (word first.task) ∙ leader.there in
+          record {
+            of_the_set = in_the_set first.task r;
+            ready = r;
+            first = λ j l h apart.
+                subst (λ (a : JobId). before a (identity s j) ≡ true) leader.its (leader.ahead j (word j ∙ h) (all_met j) apart);
+          }
+
+      go : (o : Option JobId) → best ≡ o → option_map (λ (a : JobId). a.task) o ≡ processor tasks before s
+      go None is = idle is (processor tasks before s) (processor_law point before lawful tasks s).0
+      go (Some first) is =
+          sym ((processor_law point before lawful tasks s).1 first.task (foremost first (subst (Best before s ready rest) is walked.lead)))

@@ -1,11 +1,10 @@
 -- A list of calls made one after the other.
-use Rattle.std.proofs.Common.{◌≡◌, ℕ, ◌+◌, ◌<◌, ◌≤◌, Bool, List, [], ◌∷◌, ◌++◌, map, length, get_or, take, drop, set, ℤ, Some, Option, Result, sym, refl, ap, ◌∙◌, subst, ap₂, arith, length-take}
+use Rattle.std.proofs.Common.{◌≡◌, ℕ, ◌+◌, ◌<◌, ◌≤◌, Bool, List, [], ◌∷◌, ◌++◌, map, length, get_or, take, drop, set, ℤ, Some, Option, Result, sym, refl, ap, ◌∙◌, subst, ap₂, arith}
 use Rattle.std.proofs.lemmas.List.{append_assoc, append-nil, drop_all, drop-drop, drop_more, drop-set-lt, take_all, take_more_set}
 use Rattle.std.specs.List.{zip}
 use Rattle.admission.proofs.Kept.{warrant}
 use Rattle.admission.specs.Views.{bounds_of, offsets_of, points_of, tasks_of}
 use Rattle.admission.specs.declared.accepted.Accepted.{Accepted}
-use Rattle.model.specs.Figures.{Tasks}
 use Rattle.model.specs.Machine.{after, answers, open_word, step}
 use Rattle.model.specs.Orders.{Lawful}
 use Rattle.model.specs.Promises.{Promises}
@@ -17,6 +16,7 @@ use Rattle.model.specs.declared.call.Call.{Call}
 use Rattle.model.specs.declared.figures.Figures.{Figures}
 use Rattle.model.specs.declared.job.JobId.{JobId}
 use Rattle.model.specs.declared.refusal.Refusal.{Refusal}
+use Rattle.dispatch.proofs.Fit.{tasks_fit}
 use Rattle.dispatch.specs.Holding.{Made, calls, filled, transcript}
 use Rattle.dispatch.specs.Runs.{Agree}
 use Rattle.dispatch.specs.declared.holder.Entry.{Entry}
@@ -92,9 +92,6 @@ module _ (held : Accepted) (points : ℕ → ℤ) (before : JobId → JobId → 
     (given back : List Entry) (t : Totals) (s : State) (entries : back ≡ filled (tasks_of held) before start given)
     (state : s ≡ after (tasks_of held) before start (calls given)) (clock : t.clock ≡ s.clock) (word : t.«open» ≡ open_word
     (tasks_of held) s) where
-  fit : Tasks (tasks_of held)
-  fit = (simp length-take (omega (arith, held.few)), held.fit)
-
   pub made : Made held before given back t
   made = record {
     same_calls = ap calls entries ∙ filled_calls (tasks_of held) before start given;
@@ -104,7 +101,7 @@ module _ (held : Accepted) (points : ℕ → ℤ) (before : JobId → JobId → 
     promises =
         subst (λ (tr : Transcript). Promises (tasks_of held) (bounds_of held) (reading tr))
         (sym (ap transcript entries ∙ filled_transcript (tasks_of held) before start given))
-        (law (tasks_of held) (points_of held) (bounds_of held) fit
+        (law (tasks_of held) (points_of held) (bounds_of held) (tasks_fit held)
         (warrant (tasks_of held) (points_of held) (bounds_of held) (offsets_of held) held.each
         held.shown) points before lawful agree (calls given));
   }

@@ -1,6 +1,7 @@
 mod Asked
 mod Boards
 mod Delays
+mod Fit
 mod Foremost
 mod Held
 mod Outside

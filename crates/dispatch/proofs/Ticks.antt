@@ -1,5 +1,5 @@
 -- A tick is the supply of the job with the processor and the delay of the waiting jobs.
-use Rattle.std.proofs.Common.{◌≡◌, ℕ, ◌+◌, ◌<◌, Bool, true, false, cond, ◌&&◌, eqb, ltb, leb, List, length, get_or, Some, None, Ok, Err, Option, Result, unwrap_or, sym, refl, ap, ◌∙◌, subst, ⊎_elim, arith}
+use Rattle.std.proofs.Common.{◌≡◌, ℕ, ◌+◌, Bool, true, false, cond, ◌&&◌, eqb, ltb, leb, List, length, get_or, Some, None, Ok, Err, Option, Result, unwrap_or, sym, refl, ap, ◌∙◌, subst, ⊎_elim, arith}
 use Rattle.std.proofs.lemmas.Bool.{and_from, and_left, and_parts, and_right, both_ways, cases_Bool, cond-false, eqb-true, le-leb, leb-true, lt-ltb}
 use Rattle.std.specs.Option.{option_map}
 use Rattle.model.specs.Figures.{no_task}
@@ -17,9 +17,8 @@ use Rattle.words.proofs.Words.{word_unique}
 use Rattle.words.specs.Bits.{has}
 use Rattle.dispatch.proofs.Boards.{state_is}
 use Rattle.dispatch.proofs.Outside.{open_inside, waiting_opens}
-use Rattle.dispatch.specs.Sound.{Chosen, Sound, counts_in, in_bounds, state_of}
+use Rattle.dispatch.specs.Sound.{AllInBounds, Chosen, WordOf, counts_in, in_bounds}
 use Rattle.dispatch.specs.Ticks.{delayed_state, ends, supplied_state}
-use Rattle.dispatch.specs.declared.board.Board.{Board}
 
 -- A change of the job of one task, written as a change at every number that is this task.
 pub put_everywhere : (k : ℕ) (g : ℕ → Job) (s : State)
@@ -61,108 +60,92 @@ later f clock (Some j) h =
           j.release clock parts.0,
     ))) parts.1
 
-pub sound_later : (tasks : List Figures) (b next : Board) → Sound tasks b → b.clock < last_clock → next.clock ≡ b.clock + 1
-    → next.jobs ≡ b.jobs
-    → next.ready ≡ b.ready → next.waiting ≡ b.waiting → Sound tasks next
-sound_later tasks b next sound less clock jobs ready waiting = (
-  ap length jobs ∙ sound.0,
-  omega arith,
-  (λ i. subst (λ (c : ℕ). in_bounds (get_or tasks i no_task) c (get_or next.jobs i None) ≡ true) (sym clock)
-      (subst (λ (js : List (Option Job)). in_bounds (get_or tasks i no_task) (b.clock + 1) (get_or js i None) ≡ true) (sym jobs)
-      (later (get_or tasks i no_task) b.clock (get_or b.jobs i None) (sound.2 i)))),
-  (λ i. ap (λ (w : ℕ). has w i) ready ∙ (sound.3 i ∙ sym (ap (λ (js : List (Option Job)). is_ready (unwrap_or
-      (get_or js i None) no_job).phase) jobs))),
-  (λ i. ap (λ (w : ℕ). has w i) waiting ∙ (sound.4 i ∙ sym (ap (λ (js : List (Option Job)). is_waiting (unwrap_or
-      (get_or js i None) no_job).phase) jobs))),
-)
+pub all_later : (tasks : List Figures) (clock : ℕ) (latest : ℕ → Option Job) → AllInBounds tasks (record { clock = clock; latest = latest })
+    → AllInBounds tasks (record { clock = clock + 1; latest = latest })
+all_later tasks clock latest sound i = later (get_or tasks i no_task) clock (latest i) (sound i)
 
-module _ (tasks : List Figures) (b supplied : Board) (chosen : Option ℕ) (sound : Sound tasks b) (right : Chosen tasks (state_of b) chosen)
-    (state : state_of supplied ≡ supplied_state tasks chosen (state_of b)) where
-  running_is_ready : (o : Option ℕ) (i : ℕ) → Chosen tasks (state_of b) o → runs o i ≡ true → is_ready (job (state_of b) i).phase ≡ true
+module _ (tasks : List Figures) (s supplied : State) (waiting : ℕ) (chosen : Option ℕ) (sound : AllInBounds tasks s)
+    (its : WordOf is_waiting s waiting) (right : Chosen tasks s chosen) (state : supplied ≡ supplied_state tasks chosen s) where
+  running_is_ready : (o : Option ℕ) (i : ℕ) → Chosen tasks s o → runs o i ≡ true → is_ready (job s i).phase ≡ true
   running_is_ready None i c r = absurd (both_ways false refl r)
-  running_is_ready (Some k) i c r = subst (λ (m : ℕ). is_ready (job (state_of b) m).phase ≡ true) (sym (eqb-true i k r)) c.1
+  running_is_ready (Some k) i c r = subst (λ (m : ℕ). is_ready (job s m).phase ≡ true) (sym (eqb-true i k r)) c.1
 
   -- A waiting job does not run.
-  not_running : (i : ℕ) → is_waiting (job (state_of b) i).phase ≡ true → runs chosen i ≡ false
+  not_running : (i : ℕ) → is_waiting (job s i).phase ≡ true → runs chosen i ≡ false
   not_running i w =
-      ⊎_elim (λ (r : runs chosen i ≡ true). absurd (ready_not_waiting (job (state_of b) i).phase
-      (running_is_ready chosen i right r) w)) (λ r. r)
+      ⊎_elim (λ (r : runs chosen i ≡ true). absurd (ready_not_waiting (job s i).phase (running_is_ready chosen i right r) w)) (λ r. r)
       (cases_Bool (runs chosen i))
 
   -- So it is as it was after the supply.
-  still : (i : ℕ) → runs chosen i ≡ false → job (state_of supplied) i ≡ job (state_of b) i
+  still : (i : ℕ) → runs chosen i ≡ false → job supplied i ≡ job s i
   still i r =
-      ap (λ (s : State). unwrap_or (s.latest i) no_job) state
-      ∙ ap (λ (t : Bool). unwrap_or (cond t (Some (ticked (get_or tasks i no_task) true (job (state_of b) i))) (get_or
-      b.jobs i None)) no_job) r
+      ap (λ (t : State). unwrap_or (t.latest i) no_job) state
+      ∙ ap (λ (t : Bool). unwrap_or (cond t (Some (ticked (get_or tasks i no_task) true (job s i))) (s.latest i)) no_job) r
 
-  waits : (i : ℕ) → has b.waiting i ≡ true → is_waiting (job (state_of b) i).phase ≡ true
-  waits i h = sym (sound.4 i) ∙ h
+  waits : (i : ℕ) → has waiting i ≡ true → is_waiting (job s i).phase ≡ true
+  waits i h = sym (its i) ∙ h
 
-  pub still_waits : (i : ℕ) → has b.waiting i ≡ true → is_waiting (job (state_of supplied) i).phase ≡ true
+  pub still_waits : (i : ℕ) → has waiting i ≡ true → is_waiting (job supplied i).phase ≡ true
   still_waits i h = ap (λ (j : Job). is_waiting j.phase) (still i (not_running i (waits i h))) ∙ waits i h
 
   -- The forced tasks, as the machine answers them.
   late : (i : ℕ) → Bool
-  late i = overdue (get_or tasks i no_task) (counted (runs chosen i) (job (state_of b) i))
+  late i = overdue (get_or tasks i no_task) (counted (runs chosen i) (job s i))
 
-  late_is : (i : ℕ) → (has b.waiting i && overdue (get_or tasks i no_task) (counted false (job (state_of supplied) i))) ≡ (ltb i
-      (length tasks) && late i)
+  late_is : (i : ℕ) → (has waiting i && overdue (get_or tasks i no_task) (counted false (job supplied i))) ≡ (ltb i (length tasks) && late i)
   unfolding late
   late_is i =
       ⊎_elim
-      (λ (h : has b.waiting i ≡ true).
-      ap (λ (t : Bool). t && overdue (get_or tasks i no_task) (counted false (job (state_of supplied) i))) h
+      (λ (h : has waiting i ≡ true).
+      ap (λ (t : Bool). t && overdue (get_or tasks i no_task) (counted false (job supplied i))) h
       ∙ (ap (λ (j : Job). overdue (get_or tasks i no_task) (counted false j)) (still i (not_running i (waits i h)))
-      ∙ (sym (ap (λ (t : Bool). overdue (get_or tasks i no_task) (counted t (job (state_of b) i))) (not_running i (waits i h)))
-      ∙ sym (ap (λ (t : Bool). t && late i) (lt-ltb i (length tasks) (open_inside tasks b sound i (waiting_opens (job
-      (state_of b) i).phase (waits i h))))))))
-      (λ (h : has b.waiting i ≡ false).
-      and_left (has b.waiting i) (overdue (get_or tasks i no_task) (counted false (job (state_of supplied) i))) h
+      ∙ (sym (ap (λ (t : Bool). overdue (get_or tasks i no_task) (counted t (job s i))) (not_running i (waits i h)))
+      ∙ sym (ap (λ (t : Bool). t && late i) (lt-ltb i (length tasks) (open_inside tasks s sound i (waiting_opens (job
+      s i).phase (waits i h))))))))
+      (λ (h : has waiting i ≡ false).
+      and_left (has waiting i) (overdue (get_or tasks i no_task) (counted false (job supplied i))) h
       ∙ sym (and_right (ltb i (length tasks)) (late i)
-      (ap (λ (t : Bool). t && eqb (counted (runs chosen i) (job (state_of b) i)).waited (get_or tasks i no_task).suspension) (sym
-      (sound.4 i) ∙ h))))
-      (cases_Bool (has b.waiting i))
+      (ap (λ (t : Bool). t && eqb (counted (runs chosen i) (job s i)).waited (get_or tasks i no_task).suspension) (sym (its i) ∙ h))))
+      (cases_Bool (has waiting i))
 
   pub forced_word : (forced : ℕ)
-      → ((i : ℕ) → has forced i ≡ (has b.waiting i && overdue (get_or tasks i no_task) (counted false (job (state_of supplied) i))))
-      → forced ≡ word (length tasks) (λ i. overdue (get_or tasks i no_task) (counted (runs chosen i) (job (state_of b) i)))
+      → ((i : ℕ) → has forced i ≡ (has waiting i && overdue (get_or tasks i no_task) (counted false (job supplied i))))
+      → forced ≡ word (length tasks) (λ i. overdue (get_or tasks i no_task) (counted (runs chosen i) (job s i)))
   unfolding late
   forced_word forced bits = word_unique (length tasks) forced late (λ i. bits i ∙ late_is i)
 
   -- The record of a task after both halves.
-  moved : (i : ℕ) → cond (has b.waiting i) (Some (ticked (get_or tasks i no_task) false (job (state_of supplied) i))) (get_or
-      supplied.jobs i None)
-      ≡ option_map (ticked (get_or tasks i no_task) (runs chosen i)) (get_or b.jobs i None)
+  moved : (i : ℕ) → cond (has waiting i) (Some (ticked (get_or tasks i no_task) false (job supplied i))) (supplied.latest i)
+      ≡ option_map (ticked (get_or tasks i no_task) (runs chosen i)) (s.latest i)
   moved i =
       let f = get_or tasks i no_task in
-      let o = get_or b.jobs i None in
+      let o = s.latest i in
       let to : Bool → Option Job = λ t. option_map (ticked f t) o in
-      let supply : Bool → Option Job = λ t. cond t (Some (ticked f true (job (state_of b) i))) o in
+      let supply : Bool → Option Job = λ t. cond t (Some (ticked f true (job s i))) o in
       ⊎_elim
-      (λ (h : has b.waiting i ≡ true).
-      ap (λ (t : Bool). cond t (Some (ticked f false (job (state_of supplied) i))) (get_or supplied.jobs i None)) h
+      (λ (h : has waiting i ≡ true).
+      ap (λ (t : Bool). cond t (Some (ticked f false (job supplied i))) (supplied.latest i)) h
       ∙ (ap (λ (j : Job). Some (ticked f false j)) (still i (not_running i (waits i h)))
       ∙ (sym (ap (option_map (ticked f false)) (there is_waiting o refl (waits i h))) ∙ sym (ap to (not_running i (waits i h))))))
-      (λ (h : has b.waiting i ≡ false).
-      ap (λ (t : Bool). cond t (Some (ticked f false (job (state_of supplied) i))) (get_or supplied.jobs i None)) h
-      ∙ (ap (λ (s : State). s.latest i) state
+      (λ (h : has waiting i ≡ false).
+      ap (λ (t : Bool). cond t (Some (ticked f false (job supplied i))) (supplied.latest i)) h
+      ∙ (ap (λ (t : State). t.latest i) state
       ∙ ⊎_elim
       (λ (r : runs chosen i ≡ true).
       ap supply r ∙ (sym (ap (option_map (ticked f true)) (there is_ready o refl (running_is_ready chosen i right r))) ∙ sym (ap to r)))
-      (λ (r : runs chosen i ≡ false). ap supply r ∙ (sym (all_unmoved f o (sym (sound.4 i) ∙ h)) ∙ sym (ap to r)))
+      (λ (r : runs chosen i ≡ false). ap supply r ∙ (sym (all_unmoved f o (sym (its i) ∙ h)) ∙ sym (ap to r)))
       (cases_Bool (runs chosen i))))
-      (cases_Bool (has b.waiting i))
+      (cases_Bool (has waiting i))
 
   -- The state after both halves and the step of the clock, as the machine leaves it.
-  pub ticked_state : (delayed : Board) → state_of delayed ≡ delayed_state tasks (has b.waiting) (state_of supplied)
-      → ◌≡◌ {A = State} (record { clock = delayed.clock + 1; latest = λ i. get_or delayed.jobs i None })
-      (record { clock = b.clock + 1; latest = λ i. option_map (ticked (get_or tasks i no_task) (runs chosen i)) (get_or b.jobs i None) })
+  pub ticked_state : (delayed : State) → delayed ≡ delayed_state tasks (has waiting) supplied
+      → ◌≡◌ {A = State} (record { clock = delayed.clock + 1; latest = delayed.latest })
+      (record { clock = s.clock + 1; latest = λ i. option_map (ticked (get_or tasks i no_task) (runs chosen i)) (s.latest i) })
   ticked_state delayed e =
-      state_is (delayed.clock + 1) (b.clock + 1) (λ i. get_or delayed.jobs i None)
-      (λ i. option_map (ticked (get_or tasks i no_task) (runs chosen i)) (get_or b.jobs i None))
-      (ap (λ (s : State). s.clock + 1) e ∙ ap (λ (s : State). s.clock + 1) state)
-      (λ i. ap (λ (s : State). s.latest i) e ∙ moved i)
+      state_is (delayed.clock + 1) (s.clock + 1) delayed.latest
+      (λ i. option_map (ticked (get_or tasks i no_task) (runs chosen i)) (s.latest i))
+      (ap (λ (t : State). t.clock + 1) e ∙ ap (λ (t : State). t.clock + 1) state)
+      (λ i. ap (λ (t : State). t.latest i) e ∙ moved i)
 
 -- What a granted tick answers and leaves, by its parts.
 module _ (tasks : List Figures) (chosen : Option ℕ) (s : State) (granted : eqb s.clock last_clock ≡ false) where

@@ -1,3 +1,4 @@
+pub mod Boards
 pub mod Events
 pub mod Holding
 pub mod Runs

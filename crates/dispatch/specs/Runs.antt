@@ -6,7 +6,7 @@ use Rattle.model.specs.State.{State}
 use Rattle.model.specs.declared.figures.Figures.{Figures}
 use Rattle.model.specs.declared.refusal.Refusal.{Refusal}
 use Rattle.model.specs.declared.refusal.Refusal.TheVariants.{OtherPoints}
-use Rattle.dispatch.specs.Sound.{state_of}
+use Rattle.dispatch.specs.Boards.{set_of, state_of, tasks_on}
 use Rattle.dispatch.specs.declared.run.Checked.{Checked}
 use Rattle.dispatch.specs.declared.run.Run.{Run}
 
@@ -22,11 +22,11 @@ module _ {R : Type 0} where
 
   -- The set of a run.
   abbrev pub of_set : Run R → Accepted
-  of_set r = r.set.now
+  of_set r = set_of r.board
 
   -- The tasks of its set.
   abbrev pub set_tasks : Run R → List Figures
-  set_tasks r = tasks_of (of_set r)
+  set_tasks r = tasks_on r.board
 
   -- The rule of a run.
   abbrev pub of_rule : Run R → R

@@ -1,18 +1,16 @@
--- What a board means, and what holds of every board.
-use Rattle.std.specs.Prelude.{◌≡◌, ℕ, ◌<◌, ◌≤◌, Bool, true, ◌&&◌, List, length, Some, None, Option, nat_le, nat_lt, slice_index_or}
-use Rattle.model.specs.Figures.{no_task, most_tasks}
-use Rattle.model.specs.Machine.{last_clock}
-use Rattle.model.specs.State.{State, job, is_ready, is_waiting}
+-- What holds of every board, over the state that it stands for.
+use Rattle.std.specs.Prelude.{◌≡◌, ℕ, ◌<◌, Bool, true, ◌&&◌, List, length, Some, None, Option, nat_le, nat_lt, slice_index_or}
+use Rattle.model.specs.Figures.{no_task}
+use Rattle.model.specs.State.{State, job, is_ready}
 use Rattle.model.specs.declared.figures.Figures.{Figures}
 use Rattle.model.specs.declared.job.Job.{Job}
 use Rattle.model.specs.declared.job.Phase.{Phase}
 use Rattle.model.specs.declared.job.Phase.TheVariants.{Closed, Ready, Waiting}
 use Rattle.words.specs.Bits.{has}
-use Rattle.dispatch.specs.declared.board.Board.{Board}
 
--- The state that a board stands for.
-abbrev pub state_of : Board → State
-state_of b = record { clock = b.clock; latest = λ i. slice_index_or b.jobs i None }
+-- The state of a clock and of a record for each task.
+abbrev pub state_at : ℕ → List (Option Job) → State
+state_at clock jobs = record { clock = clock; latest = λ i. slice_index_or jobs i None }
 
 -- A ready job has been given fewer ticks than C and has waited at most S, a waiting one has waited fewer than S.
 abbrev pub counts_in : Phase → Figures → Job → Bool
@@ -25,14 +23,13 @@ abbrev pub in_bounds : Figures → ℕ → Option Job → Bool
 in_bounds f clock None = true
 in_bounds f clock (Some j) = nat_le j.release clock && counts_in j.phase f j
 
--- A sound board for some tasks: 32 records, a clock within its limit, every job in bounds, and the words of the ready and of the
--- waiting tasks.
-abbrev pub Sound : List Figures → Board → Type 0
-Sound tasks b =
-    (length b.jobs ≡ most_tasks) × (b.clock ≤ last_clock)
-    × ((i : ℕ) → in_bounds (slice_index_or tasks i no_task) b.clock (slice_index_or b.jobs i None) ≡ true)
-    × ((i : ℕ) → has b.ready i ≡ is_ready (job (state_of b) i).phase)
-    × ((i : ℕ) → has b.waiting i ≡ is_waiting (job (state_of b) i).phase)
+-- Every job of a state is in bounds.
+abbrev pub AllInBounds : List Figures → State → Type 0
+AllInBounds tasks s = (i : ℕ) → in_bounds (slice_index_or tasks i no_task) s.clock (s.latest i) ≡ true
+
+-- A word has the tasks whose job is in a phase that passes the test.
+abbrev pub WordOf : (Phase → Bool) → State → ℕ → Type 0
+WordOf test s w = (i : ℕ) → has w i ≡ test (job s i).phase
 
 -- The task that was chosen has a ready job.
 abbrev pub Chosen : List Figures → State → Option ℕ → Type 0

@@ -1,7 +1,4 @@
 //! An accepted set and a rule are checked, a checked pair is started, a run is closed.
-ghost use Rattle.admission.specs.Views.{tasks_of};
-ghost use Rattle.dispatch.specs.Sound.{Sound};
-
 use crate::board::Board;
 use admission::Accepted;
 
@@ -20,10 +17,8 @@ pub struct Checked<'s, R> {
 /// A run: the tasks of an accepted set, dispatched tick by tick under a rule.
 #[derive(Drop)]
 pub struct Run<'s, R> {
-    set: &'s Accepted,
+    board: Board<'s>,
     rule: &'s R,
-    board: Board,
-    ghost sound: { Sound (tasks_of set.now) board },
 }
 
 /// What a closed run answers.

@@ -1,24 +1,22 @@
 //! Which job has the processor.
 ghost use Rattle.std.specs.Prelude.{◌≡◌};
-ghost use Rattle.dispatch.specs.Sound.{Chosen, Sound, state_of};
+ghost use Rattle.dispatch.specs.Boards.{state_of, tasks_on};
+ghost use Rattle.dispatch.specs.Sound.{Chosen};
 ghost use Rattle.model.specs.Processor.{processor};
 
 use super::Board;
-use model::{Figures, JobId};
+use model::JobId;
 use rules::OrderRule;
 
-impl Board {
+impl<'s> Board<'s> {
     /// The task whose job has the processor: of the ready jobs the one that goes before all others.
-    pub(crate) fn processor<R: OrderRule>(&self, tasks: &[Figures], rule: &R) -> Option<u32>
-        requires sound { Sound tasks.now self.now }
+    pub(crate) fn processor<R: OrderRule>(&self, rule: &R) -> Option<u32>
         ensures value { result
-            ≡ processor tasks.now (R.OrderRule.before rule.now) (state_of self.now) }
-        ensures chosen { Chosen tasks.now (state_of self.now) result }
+            ≡ processor (tasks_on self.now) (R.OrderRule.before rule.now) (state_of self.now) }
+        ensures chosen { Chosen (tasks_on self.now) (state_of self.now) result }
     {
-        let mut rest = self.ready;
         let mut best: Option<JobId> = None;
-        while let Some(task) = words::lowest(rest) {
-            rest = words::without(rest, task);
+        for task in words::bits(self.ready) {
             let job = JobId {
                 task,
                 release: self.job(task).release,
@@ -29,9 +27,6 @@ impl Board {
                 None => Some(job),
             };
         }
-        match best {
-            Some(first) => Some(first.task),
-            None => None,
-        }
+        best.map(|first| first.task)
     }
 }

@@ -1,24 +1,13 @@
 //! The calls on a run.
 ghost use Rattle.std.specs.Prelude.{◌≡◌};
 ghost use Rattle.dispatch.specs.Runs.{Kept, of_rule, set_tasks, state};
-ghost use Rattle.dispatch.specs.Sound.{Sound};
-ghost use Rattle.model.specs.Figures.{Tasks};
 ghost use Rattle.model.specs.Machine.{finish, release, step, tick, wait, wake};
 
 use super::Run;
-use model::{Answer, Call, Ended, Figures, Refusal, Ticked};
+use model::{Answer, Call, Ended, Refusal, Ticked};
 use rules::OrderRule;
 
 impl<'s, R: OrderRule> Run<'s, R> {
-    // The tasks of the set.
-    fn tasks(&self) -> &'s [Figures]
-        ensures value { result.now ≡ set_tasks self.now }
-        ensures fit { Tasks result.now }
-        ensures sound { Sound result.now self.now.board }
-    {
-        self.set.tasks()
-    }
-
     /// Opens a job of a task and answers the clock. Refused, in this order: no task has the number; fewer than T
     /// ticks since its last granted release.
     pub fn release(&mut self, task: u32) -> Result<u32, Refusal>
@@ -27,8 +16,7 @@ impl<'s, R: OrderRule> Run<'s, R> {
             ≡ (release (set_tasks self.old) task (state self.old)).1 }
         ensures kept { Kept self.old self.new }
     {
-        let tasks = self.tasks();
-        self.board.release(tasks, task)
+        self.board.release(task)
     }
 
     /// Wakes the waiting job of a task and answers the ticks that it has waited. Refused, in this order: no task has
@@ -39,8 +27,7 @@ impl<'s, R: OrderRule> Run<'s, R> {
             ≡ (wake (set_tasks self.old) task (state self.old)).1 }
         ensures kept { Kept self.old self.new }
     {
-        let tasks = self.tasks();
-        self.board.wake(tasks, task)
+        self.board.wake(task)
     }
 
     /// The job with the processor suspends itself; answers its task. Refused, in this order: no job is ready; the job
@@ -52,9 +39,7 @@ impl<'s, R: OrderRule> Run<'s, R> {
             ≡ (wait (set_tasks self.old) (R.OrderRule.before (of_rule self.old)) (state self.old)).1 }
         ensures kept { Kept self.old self.new }
     {
-        let tasks = self.tasks();
-        let chosen = self.board.processor(tasks, self.rule);
-        self.board.suspend(tasks, chosen)
+        self.board.wait(self.rule)
     }
 
     /// The job with the processor ends; answers its task, its age and the ticks that it was given. Refused if no job
@@ -66,9 +51,7 @@ impl<'s, R: OrderRule> Run<'s, R> {
             ≡ (finish (set_tasks self.old) (R.OrderRule.before (of_rule self.old)) (state self.old)).1 }
         ensures kept { Kept self.old self.new }
     {
-        let tasks = self.tasks();
-        let chosen = self.board.processor(tasks, self.rule);
-        self.board.complete(tasks, chosen)
+        self.board.finish(self.rule)
     }
 
     /// Time moves on by one tick; answers the task whose job was given the tick or none, whether that job ended, and
@@ -80,9 +63,7 @@ impl<'s, R: OrderRule> Run<'s, R> {
             ≡ (tick (set_tasks self.old) (R.OrderRule.before (of_rule self.old)) (state self.old)).1 }
         ensures kept { Kept self.old self.new }
     {
-        let tasks = self.tasks();
-        let chosen = self.board.processor(tasks, self.rule);
-        self.board.advance(tasks, chosen)
+        self.board.tick(self.rule)
     }
 
     /// Makes a call that is given as a value; the answer is that of the call's own method.

@@ -1,6 +1,6 @@
 //! Checking a set and a rule, and starting a run.
 ghost use Rattle.std.specs.Prelude.{◌≡◌};
-ghost use Rattle.admission.specs.Views.{points_of, tasks_of};
+ghost use Rattle.admission.specs.Views.{points_of};
 ghost use Rattle.dispatch.specs.Runs.{Matched, state, of_set, of_rule};
 ghost use Rattle.model.specs.State.{start};
 
@@ -31,9 +31,8 @@ impl<'s, R: OrderRule> Checked<'s, R> {
         ensures rule { of_rule result ≡ self.entry.rule.now }
     {
         Run {
-            set: self.set,
+            board: Board::new(self.set),
             rule: self.rule,
-            board: Board::new(),
         }
     }
 }

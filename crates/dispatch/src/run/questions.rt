@@ -1,8 +1,7 @@
 //! Questions on a run, and its close.
 ghost use Rattle.std.specs.Prelude.{◌≡◌};
-ghost use Rattle.admission.specs.Views.{bound_of, tasks_of};
+ghost use Rattle.admission.specs.Views.{bound_of};
 ghost use Rattle.dispatch.specs.Runs.{of_set, set_tasks, state};
-ghost use Rattle.dispatch.specs.Sound.{state_of};
 ghost use Rattle.model.specs.Machine.{latest_job, open_word, ready_word};
 
 use super::{Run, Totals};
@@ -27,7 +26,7 @@ impl<'s, R> Run<'s, R> {
     pub fn bound(&self, task: u32) -> Result<u16, Refusal>
         ensures answer { result ≡ bound_of (of_set self.now) task }
     {
-        self.set.bound(task)
+        self.board.set().bound(task)
     }
 
     /// The latest job of a task, none if it was never released; a closed job keeps its counts. Refused for a number
@@ -35,7 +34,7 @@ impl<'s, R> Run<'s, R> {
     pub fn latest(&self, task: u32) -> Result<Option<Job>, Refusal>
         ensures answer { result ≡ latest_job (set_tasks self.now) (state self.now) task }
     {
-        if task as usize >= self.set.count() {
+        if task as usize >= self.board.set().count() {
             return Err(Refusal::NoSuchTask);
         }
         Ok(self.board.latest(task))
@@ -43,9 +42,8 @@ impl<'s, R> Run<'s, R> {
 
     /// Gives up the run, and answers the clock and the tasks with an open job.
     pub fn close(self) -> Totals
-        ensures clock { result.clock ≡ (state_of self.entry.board).clock }
-        ensures open { result.open
-            ≡ open_word (tasks_of self.entry.set.now) (state_of self.entry.board) }
+        ensures clock { result.clock ≡ (state self.entry).clock }
+        ensures open { result.open ≡ open_word (set_tasks self.entry) (state self.entry) }
     {
         Totals {
             clock: self.board.clock(),

@@ -1,37 +1,28 @@
-use Rattle.std.proofs.Common.{sym, ap}
+use Rattle.std.proofs.Common.{◌≡◌, sym, ap, ◌∙◌, rules}
+use Rattle.std.specs.Option.{option_map}
 use Rattle.model.specs.declared.job.Job.{Job}
-use Rattle.dispatch.proofs.Foremost.{leads_alone, takes_the_lead, keeps_the_lead, leader_runs, none_runs}
+use Rattle.model.specs.declared.job.JobId.{JobId}
+use Rattle.dispatch.proofs.Foremost.{best_runs, takes_the_lead, keeps_the_lead}
+use Rattle.dispatch.specs.Boards.{state_of, tasks_on}
 use Rattle.dispatch.proofs.board.Board.processor.Goals as goal
-
-pub loop-task-preserved : goal.loop-task-preserved
-loop-task-preserved g c =
-    leads_alone (g.R.OrderRule.laws c.args.rule.now) c.without-rest.result
-    (ap (λ (j : Job). record { task = c.in-Some.task; release = j.release }) c.job.ensures.value) c.in-Some.ensures.there
-    c.without-rest.ensures.bits c.loop-task.invariant c.in-None.is
 
 pub loop-task-preserved-in-Some-best : goal.loop-task-preserved-in-Some-best
 loop-task-preserved-in-Some-best g c =
-    takes_the_lead (g.R.OrderRule.laws c.args.rule.now) c.without-rest.result
-    (ap (λ (j : Job). record { task = c.in-Some.task; release = j.release }) c.job.ensures.value) c.in-Some.ensures.there
-    c.without-rest.ensures.bits c.loop-task.invariant c.in-Some-best.is (sym c.if-goes_before.ensures.value)
+    let (bit, cleared) = c.in-Some.ensures.steps in
+    takes_the_lead (g.R.OrderRule.laws c.args.rule.now) c.next.new.self.rest
+    (ap (λ (j : Job). record { task = c.in-Some.task; release = j.release }) c.job.ensures.value) bit.there cleared
+    c.loop-task.invariant c.in-Some-best.is (sym c.if-goes_before.ensures.value)
 
 pub loop-task-preserved-in-Some-2 : goal.loop-task-preserved-in-Some-2
 loop-task-preserved-in-Some-2 g c =
-    keeps_the_lead (g.R.OrderRule.laws c.args.rule.now) c.without-rest.result
-    (ap (λ (j : Job). record { task = c.in-Some.task; release = j.release }) c.job.ensures.value) c.in-Some.ensures.there
-    c.without-rest.ensures.bits c.loop-task.invariant c.in-Some-best.is (sym c.if-goes_before.ensures.value)
+    let (bit, cleared) = c.in-Some.ensures.steps in
+    keeps_the_lead (g.R.OrderRule.laws c.args.rule.now) c.next.new.self.rest
+    (ap (λ (j : Job). record { task = c.in-Some.task; release = j.release }) c.job.ensures.value) bit.there cleared
+    c.loop-task.invariant c.in-Some-best.is (sym c.if-goes_before.ensures.value)
 
-pub returns-in-Some-best-2 : goal.returns-in-Some-best-2
-returns-in-Some-best-2 g c =
-    let (value, chosen) =
-    leader_runs (g.R.OrderRule.laws c.args.rule.now) c.args.tasks.now c.args.self.now c.requires.sound
-    c.loop-task.invariant c.in_default.ensures c.in-Some-best-2.is in
-    record { value = value; chosen = chosen }
-
-pub returns-in-None-best : goal.returns-in-None-best
-returns-in-None-best g c =
-    record {
-      value = none_runs (g.R.OrderRule.laws c.args.rule.now) c.args.tasks.now c.args.self.now c.requires.sound
-          c.loop-task.invariant c.in_default.ensures c.in-None-best.is;
-      chosen = tt;
-    }
+pub returns-clause-value : goal.returns-clause-value
+returns-clause-value g c =
+    let b = c.args.self.now in
+    let its : c.map.result ≡ option_map (λ (a : JobId). a.task) c.loop-task.best = search rules in
+    its ∙ best_runs (g.R.OrderRule.laws c.args.rule.now) (tasks_on b) (state_of b) b.bounded b.ready_tasks c.loop-task.invariant
+    c.in-None.ensures.steps.0
