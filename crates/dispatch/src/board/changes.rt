@@ -1,10 +1,9 @@
 //! Changing one record of the board.
-ghost use Rattle.std.specs.Prelude.{◌≡◌, ℕ, ◌<◌, true, length, if◌then◌else◌, Some, nat_eq, slice_index_or};
-ghost use Rattle.dispatch.specs.Boards.{set_of, state_of, tasks_on};
+ghost use Rattle.std.specs.Prelude.{◌≡◌, ℕ, ◌<◌, true, length, if◌then◌else◌, Some, nat_eq};
+ghost use Rattle.dispatch.specs.Boards.{figures_on, job_on, set_of, state_of, tasks_on};
 ghost use Rattle.dispatch.specs.Events.{moved};
 ghost use Rattle.dispatch.specs.Sound.{in_bounds};
-ghost use Rattle.model.specs.Figures.{no_task};
-ghost use Rattle.model.specs.State.{job, put as placed, start};
+ghost use Rattle.model.specs.State.{put as placed, start};
 ghost use Rattle.words.specs.Bits.{has};
 
 use super::Board;
@@ -43,8 +42,7 @@ impl<'s> Board<'s> {
     /// This is the latest job of a task from now on.
     pub(crate) fn put(&mut self, task: u32, job: Job)
         requires within { task < length (tasks_on self.old) }
-        requires bounded { in_bounds (slice_index_or (tasks_on self.old) task no_task)
-            (state_of self.old).clock (Some job) ≡ true }
+        requires bounded { in_bounds (figures_on self.old task) self.old.clock (Some job) ≡ true }
         ensures state { state_of self.new ≡ placed task job (state_of self.old) }
         ensures set { set_of self.new ≡ set_of self.old }
     {
@@ -56,12 +54,9 @@ impl<'s> Board<'s> {
     /// Something befalls the job of a task; answers what becomes of the job.
     pub(crate) fn on(&mut self, task: u32, event: Event) -> Job
         requires within { task < length (tasks_on self.old) }
-        requires bounded { in_bounds (slice_index_or (tasks_on self.old) task no_task)
-            (state_of self.old).clock
-            (Some (moved (slice_index_or (tasks_on self.old) task no_task) event (job (state_of self.old) task)))
-            ≡ true }
-        ensures value { result
-            ≡ moved (slice_index_or (tasks_on self.old) task no_task) event (job (state_of self.old) task) }
+        requires bounded { in_bounds (figures_on self.old task) self.old.clock
+            (Some (moved (figures_on self.old task) event (job_on self.old task))) ≡ true }
+        ensures value { result ≡ moved (figures_on self.old task) event (job_on self.old task) }
         ensures state { state_of self.new ≡ placed task result (state_of self.old) }
         ensures set { set_of self.new ≡ set_of self.old }
     {

@@ -1,9 +1,7 @@
 //! Questions on a board.
-ghost use Rattle.std.specs.Prelude.{◌≡◌, ◌<◌, length, slice_index_or};
-ghost use Rattle.dispatch.specs.Boards.{set_of, state_of, tasks_on};
-ghost use Rattle.model.specs.Figures.{no_task};
+ghost use Rattle.std.specs.Prelude.{◌≡◌, ◌<◌, length};
+ghost use Rattle.dispatch.specs.Boards.{figures_on, job_on, set_of, state_of, tasks_on};
 ghost use Rattle.model.specs.Machine.{open_word, ready_word};
-ghost use Rattle.model.specs.State.{job};
 
 use super::{Board, NO_JOB};
 use admission::Accepted;
@@ -20,7 +18,7 @@ impl<'s> Board<'s> {
     /// The figures of a task.
     pub(crate) fn figures(&self, task: u32) -> Figures
         requires within { task < length (tasks_on self.now) }
-        ensures value { result ≡ slice_index_or (tasks_on self.now) task no_task }
+        ensures value { result ≡ figures_on self.now task }
     {
         self.set.tasks()[task as usize]
     }
@@ -34,7 +32,7 @@ impl<'s> Board<'s> {
 
     /// The same, with a closed job for a task that was never released.
     pub(crate) fn job(&self, task: u32) -> Job
-        ensures value { result ≡ job (state_of self.now) task }
+        ensures value { result ≡ job_on self.now task }
     {
         self.latest(task).unwrap_or(NO_JOB)
     }

@@ -1,11 +1,10 @@
 //! A tick.
-ghost use Rattle.std.specs.Prelude.{◌≡◌, ℕ, ◌<◌, true, false, ◌&&◌, length, Some, slice_index_or};
-ghost use Rattle.dispatch.specs.Boards.{set_of, state_of, tasks_on};
+ghost use Rattle.std.specs.Prelude.{◌≡◌, ℕ, ◌<◌, true, false, ◌&&◌, length, Some};
+ghost use Rattle.dispatch.specs.Boards.{figures_on, job_on, set_of, state_of, tasks_on};
 ghost use Rattle.dispatch.specs.Sound.{Chosen};
 ghost use Rattle.dispatch.specs.Ticks.{delayed_state, ends, supplied_state};
-ghost use Rattle.model.specs.Figures.{no_task};
 ghost use Rattle.model.specs.Machine.{counted, overdue, spent, tick, ticked};
-ghost use Rattle.model.specs.State.{is_waiting, job, put as placed};
+ghost use Rattle.model.specs.State.{is_waiting, put as placed};
 ghost use Rattle.words.specs.Bits.{has};
 
 use super::{Board, LAST_CLOCK};
@@ -18,11 +17,9 @@ impl<'s> Board<'s> {
     fn give(&mut self, task: u32) -> bool
         requires chosen { Chosen (tasks_on self.old) (state_of self.old) (Some task) }
         ensures answer { result
-            ≡ spent (slice_index_or (tasks_on self.old) task no_task) true
-            (counted true (job (state_of self.old) task)) }
+            ≡ spent (figures_on self.old task) true (counted true (job_on self.old task)) }
         ensures state { state_of self.new
-            ≡ placed task (ticked (slice_index_or (tasks_on self.old) task no_task) true (job (state_of self.old) task))
-            (state_of self.old) }
+            ≡ placed task (ticked (figures_on self.old task) true (job_on self.old task)) (state_of self.old) }
         ensures set { set_of self.new ≡ set_of self.old }
     {
         self.on(task, Event::Tick).phase != Phase::Ready
@@ -31,13 +28,11 @@ impl<'s> Board<'s> {
     // A waiting job has waited one tick more; answers whether it became ready by force.
     fn delay(&mut self, task: u32) -> bool
         requires within { task < length (tasks_on self.old) }
-        requires waits { is_waiting (job (state_of self.old) task).phase ≡ true }
+        requires waits { is_waiting (job_on self.old task).phase ≡ true }
         ensures answer { result
-            ≡ overdue (slice_index_or (tasks_on self.old) task no_task)
-            (counted false (job (state_of self.old) task)) }
+            ≡ overdue (figures_on self.old task) (counted false (job_on self.old task)) }
         ensures state { state_of self.new
-            ≡ placed task (ticked (slice_index_or (tasks_on self.old) task no_task) false (job (state_of self.old) task))
-            (state_of self.old) }
+            ≡ placed task (ticked (figures_on self.old task) false (job_on self.old task)) (state_of self.old) }
         ensures set { set_of self.new ≡ set_of self.old }
     {
         self.on(task, Event::Tick).phase == Phase::Ready
@@ -59,10 +54,9 @@ impl<'s> Board<'s> {
 
     // Every job of the word has waited one tick more; answers the word of those that became ready by force.
     fn delay_all(&mut self, waiting: u32) -> u32
-        requires waits { (i : ℕ) → has waiting i ≡ true → is_waiting (job (state_of self.old) i).phase ≡ true }
+        requires waits { (i : ℕ) → has waiting i ≡ true → is_waiting (job_on self.old i).phase ≡ true }
         ensures answer { (i : ℕ) → has result i
-            ≡ (has waiting i
-            && overdue (slice_index_or (tasks_on self.old) i no_task) (counted false (job (state_of self.old) i))) }
+            ≡ (has waiting i && overdue (figures_on self.old i) (counted false (job_on self.old i))) }
         ensures state { state_of self.new
             ≡ delayed_state (tasks_on self.old) (has waiting) (state_of self.old) }
         ensures set { set_of self.new ≡ set_of self.old }
