@@ -1,7 +1,7 @@
 -- The ready job that goes before all others, found by a walk of the word of the ready tasks.
 use Rattle.std.proofs.Common.{◌≡◌, ℕ, ◌<◌, Bool, true, false, not, ◌&&◌, eqb, List, length, ℤ, Some, None, Option, sym, refl, ap, ◌∙◌, subst, ⊎_elim}
 use Rattle.std.proofs.lemmas.Bool.{and_cases, and_left, and_parts, and_right, both_ways, cases_eq, eq-eqb, eqb-true, not-false, not_from_true}
-use Rattle.std.specs.Option.{option_map}
+use Rattle.std.specs.Option.{option_map, option_map_or}
 use Rattle.model.proofs.Processor.{processor_law}
 use Rattle.model.specs.Orders.{Lawful}
 use Rattle.model.specs.Processor.{processor}
@@ -32,13 +32,8 @@ pub record Walked (before : JobId → JobId → Bool) (s : State) (ready rest : 
   pub lead : Best before s ready rest best
 
 -- The walk meets one job more.
-module _ {point : ℕ → ℤ} {before : JobId → JobId → Bool} (lawful : Lawful point before) {s : State} {ready rest : ℕ}
-    (next : ℕ) {new : JobId} (its : new ≡ identity s new.task) (here : has rest new.task ≡ true)
-    (cleared : (j : ℕ) → has next j ≡ (has rest j && not (eqb j new.task))) {best : Option JobId}
-    (walked : Walked before s ready rest best) where
-  left_still : (j : ℕ) → has next j ≡ true → has ready j ≡ true
-  left_still j h = walked.left j (and_parts (has rest j) _ (sym (cleared j) ∙ h)).0
-
+module _ (rest next : ℕ) (new : JobId) (here : has rest new.task ≡ true)
+    (cleared : (j : ℕ) → has next j ≡ (has rest j && not (eqb j new.task))) where
   met_now : has next new.task ≡ false
   met_now = cleared new.task ∙ and_right (has rest new.task) _ (not_from_true _ (eq-eqb new.task new.task refl))
 
@@ -49,58 +44,51 @@ module _ {point : ℕ → ℤ} {before : JobId → JobId → Bool} (lawful : Law
   met_before j h apart =
       ⊎_elim (λ e. e) (λ same. absurd (apart (eqb-true j new.task (not-false _ same)))) (and_cases (has rest j) _ (sym (cleared j) ∙ h))
 
-  -- The first job met leads.
-  pub leads_alone : best ≡ None → Walked before s ready next (Some new)
-  leads_alone is = record {
-    left = left_still;
-    lead = record {
-      its = its;
-      there = walked.left new.task here;
-      met = met_now;
-      ahead = λ j r m apart.
-          absurd (both_ways (has rest j) (met_before j m apart) (subst (Best before s ready rest) is walked.lead j r));
-    };
-  }
+  module _ {point : ℕ → ℤ} {before : JobId → JobId → Bool} (lawful : Lawful point before) {s : State} {ready : ℕ}
+      (its : new ≡ identity s new.task) where
+    module _ {best : Option JobId} (walked : Walked before s ready rest best) where
+      left_still : (j : ℕ) → has next j ≡ true → has ready j ≡ true
+      left_still j h = walked.left j (and_parts (has rest j) _ (sym (cleared j) ∙ h)).0
 
-  module _ {first : JobId} (is : best ≡ Some first) where
-    led : Leads before s ready rest first
-    led = subst (Best before s ready rest) is walked.lead
+      leading : ((j : ℕ) → has ready j ≡ true → has next j ≡ false → (j ≡ new.task → ⊥) → before new (identity s j) ≡ true)
+          → Walked before s ready next (Some new)
+      leading ahead =
+          record { left = left_still; lead = record { its = its; there = walked.left new.task here; met = met_now; ahead = ahead } }
 
-    -- If it goes before the job that leads, it leads from now on.
-    pub takes_the_lead : before new first ≡ true → Walked before s ready next (Some new)
-    takes_the_lead goes = record {
-      left = left_still;
-      lead = record {
-        its = its;
-        there = walked.left new.task here;
-        met = met_now;
-        ahead = λ j r m apart.
-            ⊎_elim
-            (λ (same : j ≡ first.task). subst (λ (a : JobId). before new a ≡ true) (led.its ∙ ap (identity s) (sym same)) goes)
-            (λ other. lawful.transitive new first (identity s j) goes (led.ahead j r (met_before j m apart) other))
-            (cases_eq j first.task);
-      };
-    }
+    -- A job that goes before the one that leads, or is the first one met, leads from now on.
+    pub takes_the_lead : (best : Option JobId) → Walked before s ready rest best → option_map_or (λ first. before new first) best true ≡ true
+        → Walked before s ready next (Some new)
+    takes_the_lead None walked goes =
+        leading walked (λ j r m apart. absurd (both_ways (has rest j) (met_before j m apart) (walked.lead j r)))
+    takes_the_lead (Some first) walked goes =
+        leading walked
+        (λ j r m apart.
+        ⊎_elim
+        (λ (same : j ≡ first.task). subst (λ (a : JobId). before new a ≡ true) (walked.lead.its ∙ ap (identity s) (sym same)) goes)
+        (λ other. lawful.transitive new first (identity s j) goes (walked.lead.ahead j r (met_before j m apart) other))
+        (cases_eq j first.task))
 
-    differ : first ≡ new → ⊥
-    differ same = both_ways (has rest new.task) (subst (λ (a : JobId). has rest a.task ≡ false) same led.met) here
-
-    -- If it does not, the job that leads goes before it too.
-    pub keeps_the_lead : before new first ≡ false → Walked before s ready next (Some first)
-    keeps_the_lead behind = record {
-      left = left_still;
-      lead = record {
-        its = led.its;
-        there = led.there;
-        met = met_still first.task led.met;
-        ahead = λ j r m apart.
-            ⊎_elim
-            (λ (same : j ≡ new.task). subst (λ (a : JobId). before first a ≡ true) (its ∙ ap (identity s) (sym same))
-            (lawful.exactly_one first new differ ∙ ap not behind))
-            (λ other. led.ahead j r (met_before j m other) apart)
-            (cases_eq j new.task);
-      };
-    }
+    -- Any other job goes behind the one that leads.
+    pub keeps_the_lead : (best : Option JobId) → Walked before s ready rest best → option_map_or (λ first. before new first) best true ≡ false
+        → Walked before s ready next best
+    keeps_the_lead None walked behind = absurd (both_ways true behind refl)
+    keeps_the_lead (Some first) walked behind =
+        let differ : first ≡ new → ⊥ =
+        λ same. both_ways (has rest new.task) (subst (λ (a : JobId). has rest a.task ≡ false) same walked.lead.met) here in
+        record {
+          left = left_still walked;
+          lead = record {
+            its = walked.lead.its;
+            there = walked.lead.there;
+            met = met_still first.task walked.lead.met;
+            ahead = λ j r m apart.
+                ⊎_elim
+                (λ (same : j ≡ new.task). subst (λ (a : JobId). before first a ≡ true) (its ∙ ap (identity s) (sym same))
+                (lawful.exactly_one first new differ ∙ ap not behind))
+                (λ other. walked.lead.ahead j r (met_before j m other) apart)
+                (cases_eq j new.task);
+          };
+        }
 
 -- At the end of the walk every ready job was met.
 module _ {point : ℕ → ℤ} {before : JobId → JobId → Bool} (lawful : Lawful point before) (tasks : List Figures) (s : State)

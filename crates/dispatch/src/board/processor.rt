@@ -21,11 +21,9 @@ impl<'s> Board<'s> {
                 task,
                 release: self.job(task).release,
             };
-            best = match best {
-                Some(first) if rule.goes_before(job, first) => Some(job),
-                Some(_) => best,
-                None => Some(job),
-            };
+            if best.is_none_or(|first| rule.goes_before(job, first)) {
+                best = Some(job);
+            }
         }
         best.map(|first| first.task)
     }
