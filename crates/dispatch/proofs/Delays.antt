@@ -1,6 +1,7 @@
 -- The walk of the waiting jobs, each of which waits one tick more.
 use Rattle.std.proofs.Common.{◌≡◌, ℕ, Bool, true, false, cond, not, ◌&&◌, ◌||◌, eqb, List, get_or, Some, Option, unwrap_or, sym, refl, ap, ◌∙◌, subst, ⊎_elim}
-use Rattle.std.proofs.lemmas.Bool.{and_from, and_left, and_parts, and_right, cases_eq, cond-false, cond-true, eq-eqb, ne_eqb, not_from_false, not_from_true}
+use Rattle.std.proofs.Math.Bool.{and-true, or-false}
+use Rattle.std.proofs.lemmas.Bool.{and_parts, and_right, cases_eq, eq-eqb, ne_eqb, not_from_true}
 use Rattle.model.specs.Figures.{no_task}
 use Rattle.model.specs.Machine.{counted, overdue, ticked}
 use Rattle.model.specs.State.{State, job, no_job, put}
@@ -27,14 +28,6 @@ pub record Delaying (tasks : List Figures) (from at : State) (all rest forced : 
 none_met : (b : Bool) → (b && not b) ≡ false
 none_met true = refl
 none_met false = refl
-
-and_true : (b : Bool) → (b && true) ≡ b
-and_true true = refl
-and_true false = refl
-
-or_false : (b : Bool) → (b || false) ≡ b
-or_false true = refl
-or_false false = refl
 
 -- The record of a task, if it was met and if not.
 abbrev record_of : List Figures → State → ℕ → Bool → Option Job
@@ -65,58 +58,35 @@ module _ {tasks : List Figures} {from at : State} {all rest forced : ℕ} (d : D
   module _ (next : State) (less new : ℕ) (state : next ≡ put k (ticked (get_or tasks k no_task) false (job at k)) at)
       (cleared : (i : ℕ) → has less i ≡ (has rest i && not (eqb i k)))
       (marked : (i : ℕ) → has new i ≡ (has forced i || (eqb i k && late tasks at k))) where
-    met_here : met all less k ≡ true
-    met_here =
-        and_from (has all k) (not (has less k)) (d.left k here)
-        (not_from_false (has less k) (cleared k ∙ and_right (has rest k) (not (eqb k k)) (not_from_true (eqb k k) (eq-eqb k k refl))))
-
-    met_else : (i : ℕ) → (i ≡ k → ⊥) → met all less i ≡ met all rest i
-    met_else i apart =
-        ap (λ (t : Bool). has all i && not t)
-        (cleared i ∙ (ap (λ (t : Bool). has rest i && not t) (ne_eqb i k apart) ∙ and_true (has rest i)))
-
     latest_now : (i : ℕ) → next.latest i ≡ cond (eqb i k) (Some (ticked (get_or tasks k no_task) false (job at k))) (at.latest i)
     latest_now i = ap (λ (s : State). s.latest i) state
 
-    latest_here : next.latest k ≡ record_of tasks from k (met all less k)
-    latest_here =
-        latest_now k
-        ∙ (cond-true (eqb k k) (Some (ticked (get_or tasks k no_task) false (job at k))) (at.latest k) (eq-eqb k k refl)
-        ∙ (ap (λ (j : Job). Some (ticked (get_or tasks k no_task) false j)) unmet ∙ sym (ap (record_of tasks from k) met_here)))
-
-    word_here : has new k ≡ (met all less k && late tasks from k)
-    word_here =
-        marked k
-        ∙ (ap (λ (t : Bool). t || (eqb k k && late tasks at k)) (d.word k ∙ and_left (met all rest k) (late tasks from k) not_met)
-        ∙ (ap (λ (t : Bool). t && late tasks at k) (eq-eqb k k refl)
-        ∙ (ap (λ (j : Job). overdue (get_or tasks k no_task) (counted false j)) unmet
-        ∙ sym (ap (λ (t : Bool). t && late tasks from k) met_here))))
-
     pub delaying_more : Delaying tasks from next all less new
-    delaying_more = record {
-      clock = ap (λ (s : State). s.clock) state ∙ d.clock;
-      left = λ i h. d.left i (and_parts (has rest i) (not (eqb i k)) (sym (cleared i) ∙ h)).0;
-      latest = λ i.
-          ⊎_elim
-          (λ (same : i ≡ k). subst (λ (m : ℕ). next.latest m ≡ record_of tasks from m (met all less m)) (sym same) latest_here)
-          (λ (other : i ≡ k → ⊥).
-          latest_now i
-          ∙ (cond-false (eqb i k) (Some (ticked (get_or tasks k no_task) false (job at k))) (at.latest i) (ne_eqb i k other)
-          ∙ (d.latest i ∙ sym (ap (record_of tasks from i) (met_else i other)))))
-          (cases_eq i k);
-      word = λ i.
-          ⊎_elim
-          (λ (same : i ≡ k). subst (λ (m : ℕ). has new m ≡ (met all less m && late tasks from m)) (sym same) word_here)
-          (λ (other : i ≡ k → ⊥).
-          marked i
-          ∙ (ap (λ (t : Bool). has forced i || (t && late tasks at k)) (ne_eqb i k other)
-          ∙ (or_false (has forced i) ∙ (d.word i ∙ sym (ap (λ (t : Bool). t && late tasks from i) (met_else i other))))))
-          (cases_eq i k);
-    }
+    delaying_more =
+        let this = eq-eqb k k refl in
+        let listed = d.left k here in
+        record {
+          clock = ap (λ (s : State). s.clock) state ∙ d.clock;
+          left = λ i h. d.left i (and_parts (has rest i) (not (eqb i k)) (sym (cleared i) ∙ h)).0;
+          latest = λ i.
+              ⊎_elim
+              (λ (same : i ≡ k).
+              subst (λ (m : ℕ). next.latest m ≡ record_of tasks from m (met all less m)) (sym same)
+              (simp (latest_now k, cleared k, this, listed, here, unmet)))
+              (λ (other : i ≡ k → ⊥). simp (latest_now i, cleared i, ne_eqb i k other, and-true) (d.latest i))
+              (cases_eq i k);
+          word = λ i.
+              ⊎_elim
+              (λ (same : i ≡ k).
+              subst (λ (m : ℕ). has new m ≡ (met all less m && late tasks from m)) (sym same)
+              (simp (marked k, d.word k, cleared k, this, listed, here, unmet)))
+              (λ (other : i ≡ k → ⊥). simp (marked i, cleared i, ne_eqb i k other, and-true, or-false) (d.word i))
+              (cases_eq i k);
+        }
 
 module _ {tasks : List Figures} {from at : State} {all rest forced : ℕ} (d : Delaying tasks from at all rest forced) (over : rest ≡ 0) where
   all_met : (i : ℕ) → met all rest i ≡ has all i
-  all_met i = ap (λ (t : Bool). has all i && not t) (ap (λ (w : ℕ). has w i) over ∙ has_zero i) ∙ and_true (has all i)
+  all_met i = ap (λ (t : Bool). has all i && not t) (ap (λ (w : ℕ). has w i) over ∙ has_zero i) ∙ and-true (has all i)
 
   pub delayed_all : at ≡ delayed_state tasks (has all) from
   delayed_all =
@@ -125,12 +95,3 @@ module _ {tasks : List Figures} {from at : State} {all rest forced : ℕ} (d : D
 
   pub forced_all : (i : ℕ) → has forced i ≡ (has all i && late tasks from i)
   forced_all i = d.word i ∙ ap (λ (t : Bool). t && late tasks from i) (all_met i)
-
--- The word of the forced tasks, where the job that was met is overdue and where it is not.
-pub marked_late : (forced new k : ℕ) (t : Bool) → t ≡ true → ((i : ℕ) → has new i ≡ (has forced i || eqb i k))
-    → (i : ℕ) → has new i ≡ (has forced i || (eqb i k && t))
-marked_late forced new k t e bits i = bits i ∙ ap (λ (b : Bool). has forced i || b) (sym (ap (λ (b : Bool). eqb i k && b) e ∙ and_true
-    (eqb i k)))
-
-pub marked_not : (forced k : ℕ) (t : Bool) → t ≡ false → (i : ℕ) → has forced i ≡ (has forced i || (eqb i k && t))
-marked_not forced k t e i = sym (ap (λ (b : Bool). has forced i || b) (and_right (eqb i k) t e) ∙ or_false (has forced i))

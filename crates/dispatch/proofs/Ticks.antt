@@ -1,24 +1,21 @@
 -- A tick is the supply of the job with the processor and the delay of the waiting jobs.
-use Rattle.std.proofs.Common.{◌≡◌, ℕ, ◌+◌, Bool, true, false, cond, ◌&&◌, eqb, ltb, leb, List, length, get_or, Some, None, Ok, Err, Option, Result, unwrap_or, sym, refl, ap, ◌∙◌, subst, ⊎_elim, arith}
-use Rattle.std.proofs.lemmas.Bool.{and_from, and_left, and_parts, and_right, both_ways, cases_Bool, cond-false, eqb-true, le-leb, leb-true, lt-ltb}
+use Rattle.std.proofs.Common.{◌≡◌, ℕ, ◌+◌, Bool, true, false, cond, ◌&&◌, eqb, ltb, leb, List, length, get_or, Some, None, Option, unwrap_or, sym, refl, ap, ◌∙◌, subst, ⊎_elim, arith}
+use Rattle.std.proofs.lemmas.Bool.{and_from, and_parts, and_right, both_ways, cases_Bool, eqb-true, le-leb, leb-true, lt-ltb}
 use Rattle.std.specs.Option.{option_map}
 use Rattle.model.specs.Figures.{no_task}
-use Rattle.model.specs.Machine.{advance, counted, last_clock, overdue, runs, ticked}
+use Rattle.model.specs.Machine.{counted, overdue, runs, ticked}
 use Rattle.model.specs.State.{State, is_ready, is_waiting, job, no_job, put}
 use Rattle.model.specs.Words.{word}
-use Rattle.model.specs.declared.call.Ticked.{Ticked}
 use Rattle.model.specs.declared.figures.Figures.{Figures}
 use Rattle.model.specs.declared.job.Job.{Job}
 use Rattle.model.specs.declared.job.Phase.{Phase}
 use Rattle.model.specs.declared.job.Phase.TheVariants.{Closed, Ready, Waiting}
-use Rattle.model.specs.declared.refusal.Refusal.{Refusal}
-use Rattle.model.specs.declared.refusal.Refusal.TheVariants.{ClockAtEnd}
 use Rattle.words.proofs.Words.{word_unique}
 use Rattle.words.specs.Bits.{has}
 use Rattle.dispatch.proofs.Boards.{state_is}
 use Rattle.dispatch.proofs.Outside.{open_inside, waiting_opens}
 use Rattle.dispatch.specs.Sound.{AllInBounds, Chosen, WordOf, counts_in, in_bounds}
-use Rattle.dispatch.specs.Ticks.{delayed_state, ends, supplied_state}
+use Rattle.dispatch.specs.Ticks.{delayed_state, supplied_state}
 
 -- A change of the job of one task, written as a change at every number that is this task.
 pub put_everywhere : (k : ℕ) (g : ℕ → Job) (s : State)
@@ -89,51 +86,39 @@ module _ (tasks : List Figures) (s supplied : State) (waiting : ℕ) (chosen : O
   still_waits i h = ap (λ (j : Job). is_waiting j.phase) (still i (not_running i (waits i h))) ∙ waits i h
 
   -- The forced tasks, as the machine answers them.
-  late : (i : ℕ) → Bool
-  late i = overdue (get_or tasks i no_task) (counted (runs chosen i) (job s i))
-
-  late_is : (i : ℕ) → (has waiting i && overdue (get_or tasks i no_task) (counted false (job supplied i))) ≡ (ltb i (length tasks) && late i)
-  unfolding late
+  late_is : (i : ℕ) → (has waiting i && overdue (get_or tasks i no_task) (counted false (job supplied i)))
+      ≡ (ltb i (length tasks) && overdue (get_or tasks i no_task) (counted (runs chosen i) (job s i)))
   late_is i =
       ⊎_elim
       (λ (h : has waiting i ≡ true).
-      ap (λ (t : Bool). t && overdue (get_or tasks i no_task) (counted false (job supplied i))) h
-      ∙ (ap (λ (j : Job). overdue (get_or tasks i no_task) (counted false j)) (still i (not_running i (waits i h)))
-      ∙ (sym (ap (λ (t : Bool). overdue (get_or tasks i no_task) (counted t (job s i))) (not_running i (waits i h)))
-      ∙ sym (ap (λ (t : Bool). t && late i) (lt-ltb i (length tasks) (open_inside tasks s sound i (waiting_opens (job
-      s i).phase (waits i h))))))))
+      let idle = not_running i (waits i h) in
+      let inside = lt-ltb i (length tasks) (open_inside tasks s sound i (waiting_opens (job s i).phase (waits i h))) in
+      simp (h, still i idle, inside))
       (λ (h : has waiting i ≡ false).
-      and_left (has waiting i) (overdue (get_or tasks i no_task) (counted false (job supplied i))) h
-      ∙ sym (and_right (ltb i (length tasks)) (late i)
-      (ap (λ (t : Bool). t && eqb (counted (runs chosen i) (job s i)).waited (get_or tasks i no_task).suspension) (sym (its i) ∙ h))))
+      let rests = sym (its i) ∙ h in
+      rw (h, rests) (sym (and_right (ltb i (length tasks)) _ refl)))
       (cases_Bool (has waiting i))
 
   pub forced_word : (forced : ℕ)
       → ((i : ℕ) → has forced i ≡ (has waiting i && overdue (get_or tasks i no_task) (counted false (job supplied i))))
       → forced ≡ word (length tasks) (λ i. overdue (get_or tasks i no_task) (counted (runs chosen i) (job s i)))
-  unfolding late
-  forced_word forced bits = word_unique (length tasks) forced late (λ i. bits i ∙ late_is i)
+  forced_word forced bits = word_unique (length tasks) forced _ (λ i. bits i ∙ late_is i)
 
   -- The record of a task after both halves.
   moved : (i : ℕ) → cond (has waiting i) (Some (ticked (get_or tasks i no_task) false (job supplied i))) (supplied.latest i)
       ≡ option_map (ticked (get_or tasks i no_task) (runs chosen i)) (s.latest i)
   moved i =
-      let f = get_or tasks i no_task in
-      let o = s.latest i in
-      let to : Bool → Option Job = λ t. option_map (ticked f t) o in
-      let supply : Bool → Option Job = λ t. cond t (Some (ticked f true (job s i))) o in
       ⊎_elim
       (λ (h : has waiting i ≡ true).
-      ap (λ (t : Bool). cond t (Some (ticked f false (job supplied i))) (supplied.latest i)) h
-      ∙ (ap (λ (j : Job). Some (ticked f false j)) (still i (not_running i (waits i h)))
-      ∙ (sym (ap (option_map (ticked f false)) (there is_waiting o refl (waits i h))) ∙ sym (ap to (not_running i (waits i h))))))
+      let idle = not_running i (waits i h) in
+      rw (h, still i idle, idle) (sym (ap (option_map (ticked (get_or tasks i no_task) false)) (there is_waiting (s.latest i) refl (waits i h)))))
       (λ (h : has waiting i ≡ false).
-      ap (λ (t : Bool). cond t (Some (ticked f false (job supplied i))) (supplied.latest i)) h
-      ∙ (ap (λ (t : State). t.latest i) state
+      rw h
+      (ap (λ (t : State). t.latest i) state
       ∙ ⊎_elim
       (λ (r : runs chosen i ≡ true).
-      ap supply r ∙ (sym (ap (option_map (ticked f true)) (there is_ready o refl (running_is_ready chosen i right r))) ∙ sym (ap to r)))
-      (λ (r : runs chosen i ≡ false). ap supply r ∙ (sym (all_unmoved f o (sym (its i) ∙ h)) ∙ sym (ap to r)))
+      rw r (sym (ap (option_map (ticked (get_or tasks i no_task) true)) (there is_ready (s.latest i) refl (running_is_ready chosen i right r)))))
+      (λ (r : runs chosen i ≡ false). rw r (sym (all_unmoved (get_or tasks i no_task) (s.latest i) (sym (its i) ∙ h))))
       (cases_Bool (runs chosen i))))
       (cases_Bool (has waiting i))
 
@@ -146,35 +131,3 @@ module _ (tasks : List Figures) (s supplied : State) (waiting : ℕ) (chosen : O
       (λ i. option_map (ticked (get_or tasks i no_task) (runs chosen i)) (s.latest i))
       (ap (λ (t : State). t.clock + 1) e ∙ ap (λ (t : State). t.clock + 1) state)
       (λ i. ap (λ (t : State). t.latest i) e ∙ moved i)
-
--- What a granted tick answers and leaves, by its parts.
-module _ (tasks : List Figures) (chosen : Option ℕ) (s : State) (granted : eqb s.clock last_clock ≡ false) where
-  all_forced : ℕ
-  all_forced = word (length tasks) (λ i. overdue (get_or tasks i no_task) (counted (runs chosen i) (job s i)))
-
-  later_state : State
-  later_state = record { clock = s.clock + 1; latest = λ i. option_map (ticked (get_or tasks i no_task) (runs chosen i)) (s.latest i) }
-
-  answered : Bool → ℕ → Result Ticked Refusal
-  answered ended forced = Ok (record { ran = chosen; ended = ended; forced = forced })
-
-  passes : advance tasks chosen s ≡ (answered (ends tasks chosen s) all_forced, later_state)
-  unfolding all_forced later_state answered
-  passes = cond-false (eqb s.clock last_clock) (Err ClockAtEnd, s) (answered (ends tasks chosen s) all_forced, later_state) granted
-
-  pub tick_answer : (ended : Bool) (forced : ℕ) → ended ≡ ends tasks chosen s
-      → forced ≡ word (length tasks) (λ i. overdue (get_or tasks i no_task) (counted (runs chosen i) (job s i)))
-      → Ok (record { ran = chosen; ended = ended; forced = forced }) ≡ (advance tasks chosen s).0
-  unfolding all_forced later_state answered
-  tick_answer ended forced p q =
-      ap (λ (e : Bool). answered e forced) p
-      ∙ (ap (answered (ends tasks chosen s)) q ∙ sym (ap (λ (r : Result Ticked Refusal × State). r.0) passes))
-
-  pub tick_state : (after : State) → after ≡ record {
-    clock = s.clock + 1;
-    latest = λ i. option_map (ticked (get_or tasks i no_task)
-        (runs chosen i)) (s.latest i);
-  }
-      → after ≡ (advance tasks chosen s).1
-  unfolding later_state
-  tick_state after p = p ∙ sym (ap (λ (r : Result Ticked Refusal × State). r.1) passes)

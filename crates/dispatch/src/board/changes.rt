@@ -52,6 +52,7 @@ impl<'s> Board<'s> {
     }
 
     /// Something befalls the job of a task; answers what becomes of the job.
+    #[inline]
     pub(crate) fn on(&mut self, task: u32, event: Event) -> Job
         requires within { task < length (tasks_on self.old) }
         requires bounded { in_bounds (figures_on self.old task) self.old.clock
