@@ -2,7 +2,7 @@
 use Rattle.std.proofs.Common.{◌≡◌, ℕ, ◌+◌, ◌<◌, ◌≤◌, Bool, List, [], ◌∷◌, ◌++◌, map, length, get_or, take, drop, set, ℤ, Some, Option, Result, sym, refl, ap, ◌∙◌, subst, ap₂, arith}
 use Rattle.std.proofs.lemmas.List.{append_assoc, append-nil, drop_all, drop-drop, drop_more, drop-set-lt, take_all, take_more_set}
 use Rattle.std.specs.List.{zip}
-use Rattle.admission.proofs.Kept.{warrant}
+use Rattle.admission.proofs.Kept.{one_each, warrant}
 use Rattle.admission.specs.Views.{bounds_of, offsets_of, points_of, tasks_of}
 use Rattle.admission.specs.declared.accepted.Accepted.{Accepted}
 use Rattle.model.specs.Machine.{after, answers, open_word, step}
@@ -16,7 +16,6 @@ use Rattle.model.specs.declared.call.Call.{Call}
 use Rattle.model.specs.declared.figures.Figures.{Figures}
 use Rattle.model.specs.declared.job.JobId.{JobId}
 use Rattle.model.specs.declared.refusal.Refusal.{Refusal}
-use Rattle.dispatch.proofs.Fit.{tasks_fit}
 use Rattle.dispatch.specs.Holding.{Made, calls, filled, transcript}
 use Rattle.dispatch.specs.Runs.{Agree}
 use Rattle.dispatch.specs.declared.holder.Entry.{Entry}
@@ -101,7 +100,7 @@ module _ (held : Accepted) (points : ℕ → ℤ) (before : JobId → JobId → 
     promises =
         subst (λ (tr : Transcript). Promises (tasks_of held) (bounds_of held) (reading tr))
         (sym (ap transcript entries ∙ filled_transcript (tasks_of held) before start given))
-        (law (tasks_of held) (points_of held) (bounds_of held) (tasks_fit held)
-        (warrant (tasks_of held) (points_of held) (bounds_of held) (offsets_of held) held.each
+        (law (tasks_of held) (points_of held) (bounds_of held) held.fit
+        (warrant (tasks_of held) (points_of held) (bounds_of held) (offsets_of held) (one_each held)
         held.shown) points before lawful agree (calls given));
   }

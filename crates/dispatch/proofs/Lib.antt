@@ -1,7 +1,6 @@
 mod Asked
 mod Boards
 mod Delays
-mod Fit
 mod Foremost
 mod Held
 mod Outside

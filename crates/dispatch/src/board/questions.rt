@@ -20,7 +20,7 @@ impl<'s> Board<'s> {
         requires within { task < length (tasks_on self.now) }
         ensures value { result ≡ figures_on self.now task }
     {
-        self.set.tasks()[task as usize]
+        self.set.as_slice()[task as usize].figures
     }
 
     /// The latest job of a task, none if it was never released.

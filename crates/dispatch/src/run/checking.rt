@@ -15,9 +15,8 @@ impl<'s, R: OrderRule> Checked<'s, R> {
     pub fn check(set: &'s Accepted, rule: &'s R) -> Result<Checked<'s, R>, Refusal>
         ensures answer { Matched set.now rule.now (R.OrderRule.points rule.now) result }
     {
-        let points = set.points();
-        for (task, point) in points.iter().enumerate() {
-            if rule.point(task as u32) != *point {
+        for (task, row) in set.as_slice().iter().enumerate() {
+            if rule.point(task as u32) != row.point {
                 return Err(Refusal::OtherPoints);
             }
         }

@@ -1,8 +1,8 @@
 //! Questions on a run, and its close.
 ghost use Rattle.std.specs.Prelude.{◌≡◌};
-ghost use Rattle.admission.specs.Views.{bound_of};
+ghost use Rattle.admission.specs.Views.{bounds_of};
 ghost use Rattle.dispatch.specs.Runs.{of_set, set_tasks, state};
-ghost use Rattle.model.specs.Machine.{latest_job, open_word, ready_word};
+ghost use Rattle.model.specs.Machine.{bound_of, latest_job, open_word, ready_word};
 
 use super::{Run, Totals};
 use model::{Job, Refusal};
@@ -24,9 +24,9 @@ impl<'s, R> Run<'s, R> {
 
     /// The bound of a task. Refused for a number that no task has.
     pub fn bound(&self, task: u32) -> Result<u16, Refusal>
-        ensures answer { result ≡ bound_of (of_set self.now) task }
+        ensures answer { result ≡ bound_of (bounds_of (of_set self.now)) task }
     {
-        self.board.set().bound(task)
+        self.board.set().get(task).map(|row| row.bound)
     }
 
     /// The latest job of a task, none if it was never released; a closed job keeps its counts. Refused for a number
