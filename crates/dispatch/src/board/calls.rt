@@ -24,10 +24,8 @@ impl<'s> Board<'s> {
             ≡ (release (tasks_on self.old) task (state_of self.old)).1 }
         ensures set { set_of self.new ≡ set_of self.old }
     {
-        if task as usize >= self.set.count() {
-            return Err(Refusal::NoSuchTask);
-        }
-        if self.released_within(task, self.figures(task).period) {
+        let row = self.set.get(task)?;
+        if self.released_within(task, row.figures.period) {
             return Err(Refusal::ReleasedTooSoon);
         }
         let release = self.clock;
@@ -47,9 +45,7 @@ impl<'s> Board<'s> {
             ≡ (wake (tasks_on self.old) task (state_of self.old)).1 }
         ensures set { set_of self.new ≡ set_of self.old }
     {
-        if task as usize >= self.set.count() {
-            return Err(Refusal::NoSuchTask);
-        }
+        self.set.get(task)?;
         let job = self.job(task);
         if job.phase != Phase::Waiting {
             return Err(Refusal::NotWaiting);

@@ -34,9 +34,7 @@ impl<'s, R> Run<'s, R> {
     pub fn latest(&self, task: u32) -> Result<Option<Job>, Refusal>
         ensures answer { result ≡ latest_job (set_tasks self.now) (state self.now) task }
     {
-        if task as usize >= self.board.set().count() {
-            return Err(Refusal::NoSuchTask);
-        }
+        self.board.set().get(task)?;
         Ok(self.board.latest(task))
     }
 
