@@ -1,7 +1,9 @@
 -- Adding task after task answers as the checks of a table.
-use Rattle.std.proofs.Common.{◌≡◌, ℕ, ◌+◌, ◌<◌, ◌≤◌, Bool, true, false, eqb, ltb, leb, List, [], ◌∷◌, ◌++◌, length, get_or, take, drop, Err, Result, sym, refl, ap, ◌∙◌, subst, arith, MatchResult}
+use Rattle.std.proofs.Common.{◌≡◌, ℕ, zero, suc, ◌+◌, ◌*◌, ◌<◌, ◌≤◌, Bool, true, false, eqb, ltb, leb, List, [], ◌∷◌, ◌++◌, length, get_or, take, drop, Err, Result, sym, refl, ap, ◌∙◌, subst, arith, lit<, MatchResult}
 use Rattle.std.proofs.lemmas.List.FromFn.{get_or-map-range_with_len, length-map-range_with_len}
-use Rattle.std.proofs.lemmas.List.{at_drop_more, length-take-le, take_more}
+use Rattle.std.proofs.lemmas.List.{at_drop_more, drop-drop, get_or-drop, get_or-take, length-take-le, take_more}
+use Rattle.std.specs.Simd.{first_chunks}
+use Rattle.model.specs.Bytes.{figures_at}
 use Rattle.std.proofs.lemmas.Result.{MatchResult-weaker}
 use Rattle.std.proofs.lemmas.Bool.{le-ltb, lt-leb, true≢false}
 use Rattle.model.specs.Checks.{Checks, call, question}
@@ -53,6 +55,36 @@ Front all tasks k = (tasks ≡ take k all) × (asked all (drop k all) ≡ asked 
 -- The tasks are as many as the bytes have rows.
 pub length_rows : (bytes : List ℕ) → length (rows bytes) ≡ row_count bytes
 length_rows bytes = length-map-range_with_len (row bytes) 0 (row_count bytes)
+
+module _ (bytes : List ℕ) (m : ℕ) where
+  byte : (i j : ℕ) → m + i ≡ j → i < 8 → get_or (take 8 (drop m bytes)) i 0 ≡ get_or bytes j 0
+  byte i j e h = get_or-take 8 (drop m bytes) i 0 h ∙ (get_or-drop m bytes i 0 ∙ ap (λ (k : ℕ). get_or bytes k 0) e)
+
+  figures_in_chunk : figures_at (take 8 (drop m bytes)) 0 ≡ figures_at bytes m
+  figures_in_chunk =
+      let b0 = byte 0 m (omega arith) (lit< tt) in
+      let b1 = byte 1 (m + 1) (omega arith) (lit< tt) in
+      let b2 = byte 2 (m + 2) (omega arith) (lit< tt) in
+      let b3 = byte 3 (m + 2 + 1) (omega arith) (lit< tt) in
+      let b4 = byte 4 (m + 4) (omega arith) (lit< tt) in
+      let b5 = byte 5 (m + 4 + 1) (omega arith) (lit< tt) in
+      let b6 = byte 6 (m + 6) (omega arith) (lit< tt) in
+      let b7 = byte 7 (m + 6 + 1) (omega arith) (lit< tt) in
+      cc
+
+chunk_at : (n k : ℕ) (bytes d : List ℕ) → k < n → get_or (first_chunks 8 n bytes) k d ≡ take 8 (drop (8 * k) bytes)
+chunk_at zero k bytes d h = absurd (omega arith)
+chunk_at (suc n) zero bytes d h = refl
+chunk_at (suc n) (suc k) bytes d h =
+    let next : 8 + 8 * k ≡ 8 * suc k = omega arith in
+    chunk_at n k (drop 8 bytes) d (omega arith) ∙ ap (take 8) (drop-drop (8 * k) 8 bytes ∙ ap (λ (m : ℕ). drop m bytes) next)
+
+-- The figures of a chunk of 8 bytes.
+pub chunk_row : (bytes : List ℕ) (chunks : List (List ℕ)) (n k : ℕ) (d : List ℕ) (f : Figures) → chunks ≡ first_chunks 8 n bytes
+    → f ≡ figures_at (get_or chunks k d) 0 → k < n → f ≡ row bytes k
+chunk_row bytes chunks n k d f cut value h =
+    value ∙ (ap (λ (cs : List (List ℕ)). figures_at (get_or cs k d) 0) cut
+    ∙ (ap (λ (chunk : List ℕ). figures_at chunk 0) (chunk_at n k bytes d h) ∙ figures_in_chunk bytes (8 * k)))
 
 -- One task more, or the first refusal of the whole table.
 pub front_more : (bytes : List ℕ) (tasks : List Figures) (k : ℕ) → Front (rows bytes) tasks k → k < row_count bytes

@@ -13,9 +13,7 @@ fn put(res: &mut [u8], at: usize, number: u16)
     requires { at + 2 ≤ length res.old }
     ensures bytes { res.new ≡ placed res.old at number }
 {
-    let [low, high] = number.to_le_bytes();
-    res[at] = low;
-    res[at + 1] = high;
+    res[at..at + 2].copy_from_slice(&number.to_le_bytes());
 }
 
 /// Writes bound and offset of each task, and leaves the bytes behind them.
@@ -25,11 +23,9 @@ pub(crate) fn write_answers(set: &Accepted, res: &mut [u8])
         ≡ answer_bytes (bounds_of set.now) (offsets_of set.now)
         ++ drop (4 * length (tasks_of set.now)) res.old }
 {
-    let bounds = set.bounds();
-    let offsets = set.offsets();
-    for task in 0..set.count() {
+    for (task, row) in set.as_slice().iter().enumerate() {
         let at = ANSWER * task;
-        put(res, at, bounds[task]);
-        put(res, at + 2, offsets[task]);
+        put(res, at, row.bound);
+        put(res, at + 2, row.offset);
     }
 }

@@ -3,5 +3,5 @@ use Rattle.host.specs.Rows.{rows}
 use Rattle.host.proofs.Entering.{Front}
 use Rattle.host.proofs.reading.enter.Given as goal
 
-abbrev pub invariant-loop-task : goal.invariant-loop-task
-invariant-loop-task l = Front (rows l.bytes) (listed l.table) l.task
+abbrev pub invariant-loop-row : goal.invariant-loop-row
+invariant-loop-row l = Front (rows l.bytes) (listed l.table) l.row-index
