@@ -40,6 +40,7 @@ impl<'b> Reader<'b> {
         ensures fair { Fair result }
         ensures no_longer { length self.new.rest.now ≤ length self.old.rest.now }
     {
+        // Not an enum of codes: it would name the commands a second time, and each byte stands once, in this match.
         match byte {
             0x01 => Ok(Command::Task(Figures::from(self.operands()?))),
             0x02 => Ok(Command::Rule(Choice::try_from(self.operands()?)?)),

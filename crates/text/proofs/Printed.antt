@@ -31,10 +31,10 @@ said_third r t₀ t₁ t₂ t₃ ls ms ns first second third =
     rw (← append_assoc ls ms ns) (said_last r t₀ t₂ t₃ (ls ++ ms) ns (said_more t₀ t₁ t₂ ls ms first second) third)
 
 -- One more record of a list.
-pub said_next : {T : Type 0} (f : T → Line) (xs : List T) (i : ℕ) (x : T) (before now after : List ℕ) → i < length xs → x ≡ get_or xs i x
-    → now ≡ before ++ printed (map f (take i xs)) → after ≡ now ++ printed (f x ∷ []) → after ≡ before ++ printed (map f (take (i + 1) xs))
-said_next f xs i x before now after h read first then =
-    rw (map_more f xs i x h, ← read) (said_more before now after (map f (take i xs)) (f x ∷ []) first then)
+pub said_next : {T : Type 0} (f : T → Line) (xs : List T) (i : ℕ) (x : T) (l : Line) (before now after : List ℕ) → i < length xs → x ≡ get_or xs i x
+    → l ≡ f x → now ≡ before ++ printed (map f (take i xs)) → after ≡ now ++ printed (l ∷ []) → after ≡ before ++ printed (map f (take (i + 1) xs))
+said_next f xs i x l before now after h read is first then =
+    rw (map_more f xs i x h, ← read, ← is) (said_more before now after (map f (take i xs)) (l ∷ []) first then)
 
 -- One more bound.
 bound_lines_push : (n b o : ℕ) (bs os : List ℕ) → length bs ≡ length os

@@ -41,13 +41,14 @@ impl Player<'_> {
         let mut ends = [NO_END; RECORDS];
         let mut stretches = [NO_STRETCH; RECORDS];
         let mut run = Play::start(checked, &mut ends, &mut stretches);
-        while let Some(item) = self.reader.next() {
-            if run.step(item, &mut self.text)? {
+        let Player { reader, text } = self;
+        for item in reader {
+            if run.step(item, text)? {
                 break;
             }
         }
         let Play { session } = run;
-        say_report(&mut self.text, &session.close())
+        say_report(text, &session.close())
     }
 
     // Says the bounds of a set that was tested under this rule, and plays the run.
@@ -153,6 +154,7 @@ pub fn play(heap: Global, script: &[u8]) -> Result<String, AllocError>
         text: String::new(heap),
     };
     let mut entering = Entering::new();
+    // Not a `for` over the reader: an item that starts a run lends the reader to it.
     while let Some(item) = player.reader.next() {
         if entering.step(item, &mut player)? {
             return Ok(player.text);

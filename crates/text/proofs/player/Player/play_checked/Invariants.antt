@@ -1,6 +1,7 @@
-use Rattle.std.proofs.Common.{◌≡◌, ◌++◌, length}
+use Rattle.std.proofs.Common.{◌≡◌, ◌++◌, string_bytes}
 use Rattle.admission.specs.Views.{tasks_of}
 use Rattle.dispatch.specs.Runs.{of_rule, set_tasks}
+use Rattle.script.specs.Commands.{items}
 use Rattle.script.specs.Sessions.{opened}
 use Rattle.script.specs.Views.{books}
 use Rattle.text.specs.Lines.{printed}
@@ -15,11 +16,9 @@ invariant-loop-item g l =
       tasks : set_tasks l.run.session.run ≡ tasks_of l.fn.checked.set.now;
       rule : of_rule l.run.session.run ≡ l.fn.checked.rule.now;
       said :
-          told l.initial.self
-          ++ printed (inside (tasks_of l.fn.checked.set.now) (g.R.OrderRule.before l.fn.checked.rule.now) opened (left l.initial.self))
-          ≡ told l.self
-          ++ printed (inside (tasks_of l.fn.checked.set.now) (g.R.OrderRule.before l.fn.checked.rule.now) (books l.run.session) (left l.self));
+          told l.fn.self
+          ++ printed (inside (tasks_of l.fn.checked.set.now) (g.R.OrderRule.before l.fn.checked.rule.now) opened (left l.fn.self))
+          ≡ string_bytes l.text
+          ++ printed (inside (tasks_of l.fn.checked.set.now) (g.R.OrderRule.before l.fn.checked.rule.now) (books l.run.session)
+          (items l.item-iterator.rest.now));
     }
-
-abbrev pub decreases-loop-item : goal.decreases-loop-item
-decreases-loop-item g l = length l.self.reader.rest.now
