@@ -21,10 +21,10 @@ returns-in_err-add c =
     let k = c.loop-row.row-index in
     let p = err_from_is_err_and c.from_residual.result c.from_residual.ensures.1 in
     let inside : k < row_count bytes = omega arith in
-    let value = chunk_row bytes _ (row_count bytes) k _ _ c.as_chunks.ensures.front c.from_bytes.ensures.value inside in
+    let value = chunk_row bytes _ (row_count bytes) k _ _ c.as_chunks.ensures.front c.from.ensures inside in
     record {
       answer = rw (p.1, p.2) (front_more bytes (listed c.loop-row.table) k c.loop-row.invariant inside (omega arith)
-          c.from_bytes.result value (Err c.in_err-add.field-0.0)
+          c.from.result value (Err c.in_err-add.field-0.0)
           (listed c.add.new.self) c.in_err-add.ensures.answer c.in_err-add.ensures.state);
     }
 
@@ -33,9 +33,9 @@ loop-row-preserved c =
     let bytes = c.args.bytes.now in
     let k = c.loop-row.row-index in
     let inside : k < row_count bytes = omega arith in
-    let value = chunk_row bytes _ (row_count bytes) k _ _ c.as_chunks.ensures.front c.from_bytes.ensures.value inside in
+    let value = chunk_row bytes _ (row_count bytes) k _ _ c.as_chunks.ensures.front c.from.ensures inside in
     front_more bytes (listed c.loop-row.table) k c.loop-row.invariant inside (omega arith)
-    c.from_bytes.result value (Ok c.in_ok-add.field-0)
+    c.from.result value (Ok c.in_ok-add.field-0)
     (listed c.add.new.self) c.in_ok-add.ensures.answer c.in_ok-add.ensures.state
 
 pub returns : goal.returns
