@@ -1,5 +1,5 @@
 -- What items outside of a run say, and what is left to say.
-use Rattle.std.proofs.Common.{◌≡◌, Bool, false, List, [], ◌∷◌, ◌++◌, IfOk, Ok, Err, Result, refl, ◌∙◌}
+use Rattle.std.proofs.Common.{◌≡◌, Bool, false, [], ◌∷◌, ◌++◌, IfOk, Ok, Err, Result, refl, ◌∙◌}
 use Rattle.model.specs.declared.refusal.Refusal.{Refusal}
 use Rattle.rules.specs.Choices.{chosen_before, chosen_point}
 use Rattle.script.specs.Commands.{Item}

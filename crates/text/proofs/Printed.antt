@@ -1,6 +1,8 @@
 -- Lines one after the other.
 use Rattle.std.proofs.Common.{◌≡◌, ℕ, suc, ◌+◌, ◌<◌, ◌≤◌, List, [], ◌∷◌, ◌++◌, map, length, get_or, take, IfOk, Ok, Err, Result, sym, refl, ap, ◌∙◌, append_assoc, arith}
 use Rattle.std.proofs.lemmas.List.{length-take-le, map_more, take_all, take_more}
+use Rattle.admission.specs.Held.{bounds_in, offsets_in}
+use Rattle.admission.specs.declared.accepted.Admitted.{Admitted}
 use Rattle.text.specs.Lines.{line, printed}
 use Rattle.text.specs.Spoken.{bound_lines}
 use Rattle.text.specs.declared.line.Line.{Line}
@@ -37,39 +39,36 @@ said_next f xs i x l before now after h read is first then =
     rw (map_more f xs i x h, ← read, ← is) (said_more before now after (map f (take i xs)) (l ∷ []) first then)
 
 -- One more bound.
-bound_lines_push : (n b o : ℕ) (bs os : List ℕ) → length bs ≡ length os
-    → bound_lines n (bs ++ b ∷ []) (os ++ o ∷ []) ≡ bound_lines n bs os ++ Bound (n + length bs) b o ∷ []
-bound_lines_push n b o [] [] e = ap (λ (m : ℕ). Bound m b o ∷ []) (omega arith)
-bound_lines_push n b o [] (x ∷ os) e = absurd (omega arith)
-bound_lines_push n b o (y ∷ bs) [] e = absurd (omega arith)
-bound_lines_push n b o (y ∷ bs) (x ∷ os) e =
-    ap (λ (ls : List Line). Bound n y x ∷ ls)
-    (bound_lines_push (suc n) b o bs os (omega arith)
-    ∙ ap (λ (m : ℕ). bound_lines (suc n) bs os ++ Bound m b o ∷ []) (omega arith))
+bound_lines_push : (n : ℕ) (rows : List Admitted) (x : Admitted)
+    → bound_lines n (bounds_in (rows ++ x ∷ [])) (offsets_in (rows ++ x ∷ []))
+    ≡ bound_lines n (bounds_in rows) (offsets_in rows) ++ Bound (n + length rows) x.bound x.offset ∷ []
+bound_lines_push n [] x = ap (λ (m : ℕ). Bound m x.bound x.offset ∷ []) (omega arith)
+bound_lines_push n (r ∷ rows) x =
+    ap (λ (ls : List Line). Bound n r.bound r.offset ∷ ls)
+    (bound_lines_push (suc n) rows x
+    ∙ ap (λ (m : ℕ). bound_lines (suc n) (bounds_in rows) (offsets_in rows) ++ Bound m x.bound x.offset ∷ []) (omega arith))
 
-pub said_bound : (bs os : List ℕ) (i : ℕ) (before now after : List ℕ) → i < length bs → length os ≡ length bs
-    → now ≡ before ++ printed (bound_lines 0 (take i bs) (take i os))
-    → after ≡ now ++ printed (Bound i (get_or bs i 0) (get_or os i 0) ∷ [])
-    → after ≡ before ++ printed (bound_lines 0 (take (i + 1) bs) (take (i + 1) os))
-said_bound bs os i before now after h as_long first then =
-    let at : length (take i bs) ≡ i = length-take-le i bs (omega arith) in
-    let here : length (take i os) ≡ i = length-take-le i os (omega arith) in
-    rw (take_more bs i 0 h, take_more os i 0 (omega arith), bound_lines_push 0 (get_or bs i 0) (get_or os i 0) (take i bs) (take i os) (omega arith), at)
-    (said_more before now after (bound_lines 0 (take i bs) (take i os)) (Bound (0 + i) (get_or bs i 0) (get_or os i 0) ∷ []) first
-    (then ∙ ap (λ (m : ℕ). now ++ printed (Bound m (get_or bs i 0) (get_or os i 0) ∷ [])) (omega arith)))
+pub said_bound : (rows : List Admitted) (i : ℕ) (d : Admitted) (before now after : List ℕ) → i < length rows
+    → now ≡ before ++ printed (bound_lines 0 (bounds_in (take i rows)) (offsets_in (take i rows)))
+    → after ≡ now ++ printed (Bound i (get_or rows i d).bound (get_or rows i d).offset ∷ [])
+    → after ≡ before ++ printed (bound_lines 0 (bounds_in (take (i + 1) rows)) (offsets_in (take (i + 1) rows)))
+said_bound rows i d before now after h first then =
+    let many : length (take i rows) ≡ i = length-take-le i rows (omega arith) in
+    let at : 0 + length (take i rows) ≡ i = omega arith in
+    rw (take_more rows i d h, bound_lines_push 0 (take i rows) (get_or rows i d), at)
+    (said_more before now after (bound_lines 0 (bounds_in (take i rows)) (offsets_in (take i rows)))
+    (Bound i (get_or rows i d).bound (get_or rows i d).offset ∷ []) first then)
 
 -- All of them.
 pub said_all : {T : Type 0} (f : T → Line) (xs ys : List T) (i : ℕ) (before now : List ℕ) → length xs ≤ i → xs ≡ ys
     → now ≡ before ++ printed (map f (take i xs)) → now ≡ before ++ printed (map f ys)
 said_all f xs ys i before now h same first = first ∙ ap (λ (zs : List _). before ++ printed (map f zs)) (take_all i xs h ∙ same)
 
-pub said_bounds : (bs os bounds offsets : List ℕ) (i : ℕ) (before now : List ℕ) → length bs ≤ i → length os ≡ length bs → bs ≡ bounds
-    → os ≡ offsets → now ≡ before ++ printed (bound_lines 0 (take i bs) (take i os)) → now ≡ before ++ printed (bound_lines 0 bounds offsets)
-said_bounds bs os bounds offsets i before now h as_long same alike first =
-    let all : take i bs ≡ bounds = take_all i bs h ∙ same in
-    let each : take i os ≡ offsets = take_all i os (omega arith) ∙ alike in
-    first ∙ (ap (λ (zs : List ℕ). before ++ printed (bound_lines 0 zs (take i os))) all
-    ∙ ap (λ (zs : List ℕ). before ++ printed (bound_lines 0 bounds zs)) each)
+pub said_bounds : (rows all : List Admitted) (i : ℕ) (before now : List ℕ) → length rows ≤ i → rows ≡ all
+    → now ≡ before ++ printed (bound_lines 0 (bounds_in (take i rows)) (offsets_in (take i rows)))
+    → now ≡ before ++ printed (bound_lines 0 (bounds_in all) (offsets_in all))
+said_bounds rows all i before now h same first =
+    first ∙ ap (λ (rs : List Admitted). before ++ printed (bound_lines 0 (bounds_in rs) (offsets_in rs))) (take_all i rows h ∙ same)
 
 -- Lines that are said, and those that are left to say.
 pub said_then : (before now : List ℕ) (ls later : List Line) → now ≡ before ++ printed ls

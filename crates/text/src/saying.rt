@@ -47,9 +47,8 @@ pub(crate) fn say_bounds(text: &mut String, set: &Accepted) -> Result<(), AllocE
     ensures bytes { OnOk result (string_bytes text.new
         ≡ string_bytes text.old ++ printed (bound_lines 0 (bounds_of set.now) (offsets_of set.now))) }
 {
-    let offsets = set.offsets();
-    for (task, bound) in set.bounds().iter().enumerate() {
-        say(text, Line::Bound(task as u32, *bound, offsets[task]))?;
+    for (task, row) in set.as_slice().iter().enumerate() {
+        say(text, Line::Bound(task as u32, row.bound, row.offset))?;
     }
     Ok(())
 }

@@ -1,4 +1,4 @@
-use Rattle.std.proofs.Common.{◌++◌, map, string_bytes}
+use Rattle.std.proofs.Common.{map}
 use Rattle.record_log.specs.Records.{records}
 use Rattle.text.specs.Spoken.{loss}
 use Rattle.text.specs.declared.line.Line.TheVariants.{End, Run}

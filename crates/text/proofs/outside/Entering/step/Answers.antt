@@ -1,5 +1,5 @@
-use Rattle.std.proofs.Common.{Ok, sym, refl, ap, ◌∙◌}
-use Rattle.text.proofs.Heard.{heard_refused, heard_starts}
+use Rattle.std.proofs.Common.{Ok, sym, ap, ◌∙◌}
+use Rattle.text.proofs.Heard.{heard_starts}
 use Rattle.text.proofs.outside.Entering.step.Goals as goal
 
 pub returns-in-Ok-Starts : goal.returns-in-Ok-Starts
