@@ -1,8 +1,8 @@
 -- Rows that are made one by one from tasks, points and what the search has found.
-use Rattle.std.proofs.Common.{◌≡◌, ℕ, ◌+◌, List, [], ◌∷◌, ◌++◌, map, length, ℤ, Iter, None, ap, inl, inr, append_assoc, arith, length-append}
+use Rattle.std.proofs.Common.{◌≡◌, ℕ, ◌+◌, List, ◌++◌, map, length, ℤ, Iter, None, ap, inl, inr, arith, length-append}
 use Rattle.std.proofs.lemmas.Iterator.{zips}
 use Rattle.std.proofs.lemmas.Fn.{fronts}
-use Rattle.std.proofs.lemmas.List.{append-nil, length-map, map_push, nil_from_length}
+use Rattle.std.proofs.lemmas.List.{append-nil, length-map, nil_from_length}
 use Rattle.std.specs.Iterator.Adapters.{zip_first, zip_second}
 use Rattle.std.specs.Slice.Iter.{iter_rest}
 use Rattle.std.specs.declared.iter.Zip.{Zip}
@@ -11,14 +11,7 @@ use Rattle.admission.specs.Held.{bounds_in, figures_in, offsets_in, points_in}
 use Rattle.admission.specs.declared.accepted.Admitted.{Admitted}
 
 module _ {A X : Type 0} (f : A → X) where
-  -- One row more takes one entry from those that are left.
-  pub column_more : (rows : List A) (a : A) (x : X) (rest left whole : List X) → f a ≡ x → map f rows ++ rest ≡ whole → rest ≡ x ∷ left
-      → map f (rows ++ a ∷ []) ++ left ≡ whole
-  column_more rows a x rest left whole value so_far next =
-      let pushed = map_push f rows a in
-      let joined = append_assoc (map f rows) (x ∷ []) left in
-      cc
-
+  -- As many entries are left as rows are to come.
   column_long : (rows : List A) (rest whole : List X) → map f rows ++ rest ≡ whole → length rows + length rest ≡ length whole
   column_long rows rest whole so_far =
       let long : length (map f rows ++ rest) ≡ length whole = ap length so_far in

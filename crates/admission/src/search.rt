@@ -18,6 +18,7 @@ impl Round<'_> {
         let task = self.tasks[own];
         let alone = u64::from(alone(task));
         let late = u64::from(first_late(task));
+        // Not an `Option` of the best so far: no total from D + 1 on counts, so that number starts both tests.
         let mut best = late;
         let mut at = 0;
         for offset in 0..task.deadline {

@@ -23,6 +23,7 @@ pub(crate) fn write_answers(set: &Accepted, res: &mut [u8])
         ≡ answer_bytes (bounds_of set.now) (offsets_of set.now)
         ++ drop (4 * length (tasks_of set.now)) res.old }
 {
+    // Not chunks of the result: once a chunk's borrow ends, no contract of std says what the slice holds.
     for (task, row) in set.as_slice().iter().enumerate() {
         let at = ANSWER * task;
         put(res, at, row.bound);
