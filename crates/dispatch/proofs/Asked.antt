@@ -1,6 +1,7 @@
 -- The words that a board keeps, as the machine answers them.
-use Rattle.std.proofs.Common.{◌≡◌, ℕ, Bool, true, false, ◌&&◌, ◌||◌, ltb, List, length, sym, refl, ap, ◌∙◌, ⊎_elim}
-use Rattle.std.proofs.lemmas.Bool.{and_right, cases_Bool, lt-ltb}
+use Rattle.std.proofs.Common.{◌≡◌, ℕ, Bool, true, false, ◌||◌, List, length, refl, ⊎_elim}
+use Rattle.std.proofs.Math.Bool.{and-false}
+use Rattle.std.proofs.lemmas.Bool.{cases_Bool, lt-ltb}
 use Rattle.model.specs.State.{State, is_open, is_ready, is_waiting, job}
 use Rattle.model.specs.Words.{word}
 use Rattle.model.specs.declared.figures.Figures.{Figures}
@@ -17,10 +18,10 @@ module _ (tasks : List Figures) (s : State) (sound : AllInBounds tasks s) (test 
   word_of w bits =
       word_unique (length tasks) w (λ i. test (job s i).phase)
       (λ i.
-      bits i ∙ ⊎_elim
+      ⊎_elim
       (λ (h : test (job s i).phase ≡ true).
-      sym (ap (λ (t : Bool). t && test (job s i).phase) (lt-ltb i (length tasks) (open_inside tasks s sound i (opens (job s i).phase h)))))
-      (λ (h : test (job s i).phase ≡ false). h ∙ sym (and_right (ltb i (length tasks)) (test (job s i).phase) h))
+      let inside = lt-ltb i (length tasks) (open_inside tasks s sound i (opens (job s i).phase h)) in simp (bits i, h, inside))
+      (λ (h : test (job s i).phase ≡ false). simp (bits i, h, and-false))
       (cases_Bool (test (job s i).phase)))
 
 -- A phase is open if it is ready or waiting.

@@ -7,10 +7,7 @@ use Rattle.model.specs.Machine.{counted, overdue, ticked}
 use Rattle.model.specs.State.{State, job, no_job, put}
 use Rattle.model.specs.declared.figures.Figures.{Figures}
 use Rattle.model.specs.declared.job.Job.{Job}
-use Rattle.words.proofs.Digits.{has_zero}
 use Rattle.words.specs.Bits.{has}
-use Rattle.dispatch.proofs.Boards.{state_is}
-use Rattle.dispatch.specs.Ticks.{delayed_state}
 
 -- The number is in the first word and no more in the second.
 abbrev pub met : ℕ → ℕ → ℕ → Bool
@@ -25,10 +22,6 @@ pub record Delaying (tasks : List Figures) (from at : State) (all rest forced : 
       ≡ cond (met all rest i) (Some (ticked (get_or tasks i no_task) false (job from i))) (from.latest i)
   pub word : (i : ℕ) → has forced i ≡ (met all rest i && overdue (get_or tasks i no_task) (counted false (job from i)))
 
-none_met : (b : Bool) → (b && not b) ≡ false
-none_met true = refl
-none_met false = refl
-
 -- The record of a task, if it was met and if not.
 abbrev record_of : List Figures → State → ℕ → Bool → Option Job
 record_of tasks from i t = cond t (Some (ticked (get_or tasks i no_task) false (job from i))) (from.latest i)
@@ -36,14 +29,6 @@ record_of tasks from i t = cond t (Some (ticked (get_or tasks i no_task) false (
 -- Whether the job of a task is overdue after one more tick of waiting.
 abbrev late : List Figures → State → ℕ → Bool
 late tasks from i = overdue (get_or tasks i no_task) (counted false (job from i))
-
-pub delaying_none : (tasks : List Figures) (s : State) (all : ℕ) → Delaying tasks s s all all 0
-delaying_none tasks s all = record {
-  clock = refl;
-  left = λ i h. h;
-  latest = λ i. sym (ap (record_of tasks s i) (none_met (has all i)));
-  word = λ i. has_zero i ∙ sym (ap (λ (t : Bool). t && late tasks s i) (none_met (has all i)));
-}
 
 module _ {tasks : List Figures} {from at : State} {all rest forced : ℕ} (d : Delaying tasks from at all rest forced) (k : ℕ)
     (here : has rest k ≡ true) where
@@ -83,15 +68,3 @@ module _ {tasks : List Figures} {from at : State} {all rest forced : ℕ} (d : D
               (λ (other : i ≡ k → ⊥). simp (marked i, cleared i, ne_eqb i k other, and-true, or-false) (d.word i))
               (cases_eq i k);
         }
-
-module _ {tasks : List Figures} {from at : State} {all rest forced : ℕ} (d : Delaying tasks from at all rest forced) (over : rest ≡ 0) where
-  all_met : (i : ℕ) → met all rest i ≡ has all i
-  all_met i = ap (λ (t : Bool). has all i && not t) (ap (λ (w : ℕ). has w i) over ∙ has_zero i) ∙ and-true (has all i)
-
-  pub delayed_all : at ≡ delayed_state tasks (has all) from
-  delayed_all =
-      state_is at.clock from.clock at.latest (λ i. record_of tasks from i (has all i)) d.clock
-      (λ i. d.latest i ∙ ap (record_of tasks from i) (all_met i))
-
-  pub forced_all : (i : ℕ) → has forced i ≡ (has all i && late tasks from i)
-  forced_all i = d.word i ∙ ap (λ (t : Bool). t && late tasks from i) (all_met i)

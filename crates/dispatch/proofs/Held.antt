@@ -46,9 +46,6 @@ module _ (tasks : List Figures) (before : JobId → JobId → Bool) where
     pub done : take i es ++ filled tasks before s (drop i given) ≡ filled tasks before from given
     pub ends : after tasks before s (calls (drop i given)) ≡ after tasks before from (calls given)
 
-  pub filling_none : (s : State) (es : List Entry) → Filling s es s es 0
-  filling_none s es = record { rest = refl; done = refl; ends = refl }
-
   module _ (from : State) (given : List Entry) (s : State) (es : List Entry) (i : ℕ) (f : Filling from given s es i) where
     module _ (inside : i < length es) (d : Entry) (next : State) (x : Entry)
         (answered : x ≡ record { call = (get_or es i d).call; answer = Some (step tasks before (get_or es i d).call s).0 })

@@ -1,6 +1,7 @@
 -- A tick is the supply of the job with the processor and the delay of the waiting jobs.
-use Rattle.std.proofs.Common.{◌≡◌, ℕ, ◌+◌, Bool, true, false, cond, ◌&&◌, eqb, ltb, leb, List, length, get_or, Some, None, Option, unwrap_or, sym, refl, ap, ◌∙◌, subst, ⊎_elim, arith}
-use Rattle.std.proofs.lemmas.Bool.{and_from, and_parts, and_right, both_ways, cases_Bool, eqb-true, le-leb, leb-true, lt-ltb}
+use Rattle.std.proofs.Common.{◌≡◌, ℕ, ◌+◌, Bool, true, false, cond, ◌&&◌, eqb, ltb, List, length, get_or, Some, None, Option, unwrap_or, sym, refl, ap, ◌∙◌, subst, ⊎_elim, arith}
+use Rattle.std.proofs.lemmas.Bool.{and_right, both_ways, cases_Bool, eqb-true, lt-ltb}
+use Rattle.std.proofs.lemmas.Bool.Decides.{nat_tests}
 use Rattle.std.specs.Option.{option_map}
 use Rattle.model.specs.Figures.{no_task}
 use Rattle.model.specs.Machine.{counted, overdue, runs, ticked}
@@ -14,18 +15,14 @@ use Rattle.words.proofs.Words.{word_unique}
 use Rattle.words.specs.Bits.{has}
 use Rattle.dispatch.proofs.Boards.{state_is}
 use Rattle.dispatch.proofs.Outside.{open_inside, waiting_opens}
-use Rattle.dispatch.specs.Sound.{AllInBounds, Chosen, WordOf, counts_in, in_bounds}
+use Rattle.dispatch.specs.Sound.{AllInBounds, Chosen, WordOf}
 use Rattle.dispatch.specs.Ticks.{delayed_state, supplied_state}
 
 -- A change of the job of one task, written as a change at every number that is this task.
 pub put_everywhere : (k : ℕ) (g : ℕ → Job) (s : State)
     → put k (g k) s ≡ record { clock = s.clock; latest = λ i. cond (eqb i k) (Some (g i)) (s.latest i) }
 put_everywhere k g s =
-    let agree : (i : ℕ) (t : Bool) → eqb i k ≡ t → cond t (Some (g k)) (s.latest i) ≡ cond t (Some (g i)) (s.latest i) =
-    λ i t. elim t as (λ x. eqb i k ≡ x → cond x (Some (g k)) (s.latest i) ≡ cond x (Some (g i)) (s.latest i))
-    [ true ↦ λ e. ap (λ (m : ℕ). Some (g m)) (sym (eqb-true i k e)) | false ↦ λ e. refl ] in
-    state_is s.clock s.clock (put k (g k) s).latest (λ i. cond (eqb i k) (Some (g i)) (s.latest i)) refl (λ i. agree i
-    (eqb i k) refl)
+    state_is s.clock s.clock (put k (g k) s).latest (λ i. cond (eqb i k) (Some (g i)) (s.latest i)) refl (λ i. grind (arith, nat_tests))
 
 -- A job that neither runs nor waits is as it was.
 unmoved : (f : Figures) (j : Job) → is_waiting j.phase ≡ false → ticked f false j ≡ j
@@ -45,21 +42,6 @@ ready_not_waiting : (p : Phase) → is_ready p ≡ true → is_waiting p ≡ tru
 ready_not_waiting Closed r w = both_ways false refl r
 ready_not_waiting Ready r w = both_ways false refl w
 ready_not_waiting Waiting r w = both_ways false refl r
-
--- The clock gains 1.
-later : (f : Figures) (clock : ℕ) (o : Option Job) → in_bounds f clock o ≡ true → in_bounds f (clock + 1) o ≡ true
-later f clock None h = refl
-later f clock (Some j) h =
-    let parts = and_parts (leb j.release clock) (counts_in j.phase f j) h in
-    and_from (leb j.release (clock + 1)) (counts_in j.phase f j) (le-leb j.release (clock + 1) (omega (
-      arith,
-      leb-true
-          j.release clock parts.0,
-    ))) parts.1
-
-pub all_later : (tasks : List Figures) (clock : ℕ) (latest : ℕ → Option Job) → AllInBounds tasks (record { clock = clock; latest = latest })
-    → AllInBounds tasks (record { clock = clock + 1; latest = latest })
-all_later tasks clock latest sound i = later (get_or tasks i no_task) clock (latest i) (sound i)
 
 module _ (tasks : List Figures) (s supplied : State) (waiting : ℕ) (chosen : Option ℕ) (sound : AllInBounds tasks s)
     (its : WordOf is_waiting s waiting) (right : Chosen tasks s chosen) (state : supplied ≡ supplied_state tasks chosen s) where
