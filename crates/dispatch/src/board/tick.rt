@@ -1,9 +1,9 @@
 //! A tick.
-ghost use Rattle.std.specs.Prelude.{◌≡◌, ℕ, ◌<◌, true, false, ◌&&◌, length, Some};
+ghost use Rattle.std.specs.Prelude.{◌≡◌, ℕ, ◌<◌, true, false, ◌&&◌, length};
 ghost use Rattle.dispatch.specs.Boards.{figures_on, job_on, set_of, state_of, tasks_on};
 ghost use Rattle.dispatch.specs.Sound.{Chosen};
 ghost use Rattle.dispatch.specs.Ticks.{delayed_state, ends, supplied_state};
-ghost use Rattle.model.specs.Machine.{counted, overdue, spent, tick, ticked};
+ghost use Rattle.model.specs.Machine.{counted, overdue, tick, ticked};
 ghost use Rattle.model.specs.State.{is_waiting, put as placed};
 ghost use Rattle.words.specs.Bits.{has};
 
@@ -13,18 +13,6 @@ use model::{Phase, Refusal, Ticked};
 use rules::OrderRule;
 
 impl<'s> Board<'s> {
-    // The job with the processor is given a tick; answers whether it ended.
-    fn give(&mut self, task: u32) -> bool
-        requires chosen { Chosen (tasks_on self.old) (state_of self.old) (Some task) }
-        ensures answer { result
-            ≡ spent (figures_on self.old task) true (counted true (job_on self.old task)) }
-        ensures state { state_of self.new
-            ≡ placed task (ticked (figures_on self.old task) true (job_on self.old task)) (state_of self.old) }
-        ensures set { set_of self.new ≡ set_of self.old }
-    {
-        self.on(task, Event::Tick).phase != Phase::Ready
-    }
-
     // A waiting job has waited one tick more; answers whether it became ready by force.
     fn delay(&mut self, task: u32) -> bool
         requires within { task < length (tasks_on self.old) }
@@ -46,8 +34,9 @@ impl<'s> Board<'s> {
             ≡ supplied_state (tasks_on self.old) chosen (state_of self.old) }
         ensures set { set_of self.new ≡ set_of self.old }
     {
+        // Not `is_some_and`: of what its closure changes in the board the proof learns nothing.
         match chosen {
-            Some(task) => self.give(task),
+            Some(task) => self.on(task, Event::Tick).phase != Phase::Ready,
             None => false,
         }
     }
