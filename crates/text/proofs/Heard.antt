@@ -1,5 +1,5 @@
 -- What items outside of a run say, and what is left to say.
-use Rattle.std.proofs.Common.{◌≡◌, Bool, false, [], ◌∷◌, ◌++◌, IfOk, Ok, Err, Result, refl, ◌∙◌}
+use Rattle.std.proofs.Common.{◌≡◌, Bool, ◌∷◌, ◌++◌, IfOk, Ok, Err, Result, refl, ◌∙◌}
 use Rattle.model.specs.declared.refusal.Refusal.{Refusal}
 use Rattle.rules.specs.Choices.{chosen_before, chosen_point}
 use Rattle.script.specs.Commands.{Item}
@@ -7,11 +7,9 @@ use Rattle.script.specs.Setups.{Desk}
 use Rattle.script.specs.declared.setup.Entered.{Entered}
 use Rattle.script.specs.declared.setup.Entered.TheVariants.{Starts}
 use Rattle.text.specs.Lines.{printed}
-use Rattle.text.specs.Playing.{Heard, Says, Tried, left, told}
+use Rattle.text.specs.Playing.{Heard, Tried, left, told}
 use Rattle.text.specs.Spoken.{entry, heard, outside, run_lines, started, verdict_on}
-use Rattle.text.specs.declared.line.Line.TheVariants.{Refused}
 use Rattle.text.specs.declared.player.Player.{Player}
-use Rattle.text.proofs.Printed.{said_then}
 
 module _ (item : Item) (d d' : Desk) (p p' : Player) (state : d' ≡ (heard item d).1) where
   -- What an item says by its answer, which is known.
@@ -19,15 +17,6 @@ module _ (item : Item) (d d' : Desk) (p p' : Player) (state : d' ≡ (heard item
       → told p ++ printed (outside verdict d (item ∷ left p))
       ≡ told p ++ printed (entry r (started (verdict_on verdict d') (run_lines d' (left p)) (outside verdict d' (left p))) (outside verdict d' (left p)))
   answered r answer verdict = rw (answer, state) refl
-
-  pub heard_refused : (why : Refusal) → Err why ≡ (heard item d).0 → left p' ≡ left p
-      → Says p p' (Refused why ∷ []) → Heard item d d' p p' false
-  heard_refused why answer rest said =
-      record {
-        said = λ verdict right.
-            answered (Err why) answer verdict ∙ said_then (told p) (told p') (Refused why ∷ []) (outside verdict d' (left p)) said;
-        rest = λ _. rest;
-      }
 
   -- A start says what its verdict says.
   pub heard_starts : {E : Type 0} → Ok Starts ≡ (heard item d).0 → (r : Result Bool E)

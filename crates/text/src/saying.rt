@@ -34,6 +34,7 @@ pub(crate) fn say_loss(text: &mut String, lost: bool) -> Result<(), AllocError>
 }
 
 /// Says which records of a call are lost.
+#[tactic(auto, using(crate::proofs::Printed::said_last))]
 pub(crate) fn say_losses(text: &mut String, lost: Lost) -> Result<(), AllocError>
     ensures bytes { OnOk result (string_bytes text.new
         ≡ string_bytes text.old ++ printed (losses lost)) }
