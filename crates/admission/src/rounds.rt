@@ -68,6 +68,7 @@ pub(crate) fn smallest_bounds(
             figures: &figures,
         };
         let mut found = ArrayVec::new();
+        // Not over the rows: a task is looked at by its number, beside all others.
         for own in 0..tasks.len() {
             let Some(least) = round.smallest_total(own) else {
                 break 'rounds None;

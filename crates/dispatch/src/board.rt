@@ -20,6 +20,7 @@ mod tick;
 pub const LAST_CLOCK: u32 = 4_000_000_000;
 
 /// The tasks of a run, and what it keeps of their jobs.
+// Not an `ArrayVec` of records: there is one for each number that a word can name, so a bit and its record go together.
 #[derive(Clone, Copy)]
 pub(crate) struct Board<'s> {
     set: &'s Accepted,
@@ -35,6 +36,7 @@ pub(crate) struct Board<'s> {
 }
 
 /// What stands for the job of a task that was never released.
+// Not an `Option` further on: such a job asks for nothing and can be told nothing, as a closed one.
 const NO_JOB: Job = Job {
     release: 0,
     phase: Phase::Closed,

@@ -25,6 +25,7 @@ fn in_phase(job: &Job, phase: Phase) -> Job
 }
 
 // A ready job is given a tick, and ends if that makes C.
+// Not one function with the next: they count different fields, up to different figures, and lead to different phases.
 fn given(job: &Job, execution: u16) -> Job
     requires more { job.now.given < execution }
     ensures value { result ≡ supplied execution job.now }
@@ -65,6 +66,7 @@ pub(crate) fn after(job: &Job, event: Event, figures: &Figures) -> Job
     requires bears { bears figures.now event job.now ≡ true }
     ensures value { result ≡ moved figures.now event job.now }
 {
+    // Not a closure for each event: what an event does hangs on the phase as much as on the event.
     match (job.phase, event) {
         (Phase::Ready, Event::Suspend) => in_phase(job, Phase::Waiting),
         (Phase::Waiting, Event::Wake) => in_phase(job, Phase::Ready),

@@ -31,6 +31,7 @@ pub struct Ticked {
     /// The task whose job was given the tick; none if the processor was idle.
     pub ran: Option<u32>,
     /// Whether that job ended.
+    // Not an `Option` round the task and this: a tick answers three things side by side, as scripts and users name them.
     pub ended: bool,
     /// The tasks whose waiting jobs became ready by force, bit i for task i.
     pub forced: u32,

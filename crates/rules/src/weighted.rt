@@ -78,6 +78,7 @@ fn sum(below: i32, added: i32) -> i32
 }
 
 // A sum, stopped at the ends of the range of points.
+// Not a type of points: the trait of rules answers an `i32`, so it would be taken apart wherever it is made.
 fn stopped(sum: i32) -> i32
     ensures value { result ≡ capped sum }
     ensures range { InRange result }

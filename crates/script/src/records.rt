@@ -43,6 +43,7 @@ pub struct Row {
 }
 
 /// Which records of a granted call found their log full.
+// Not an enum: one call can lose both.
 #[derive(Clone, Copy, PartialEq, Eq, Debug)]
 pub struct Lost {
     /// The record of a job's end.
@@ -64,6 +65,7 @@ pub enum Turn {
 pub const RECORDS: usize = 256;
 
 /// What stands in the memory of a log before an end is pushed.
+// Not a `Default`: a constant can fill an array that is a constant itself. So with the next one.
 pub const NO_END: EndRecord = EndRecord {
     task: 0,
     release: 0,

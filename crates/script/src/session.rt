@@ -23,6 +23,7 @@ pub struct Closed<'m> {
     /// The log of stretches, with the last row unless that found it full.
     pub stretches: Log<'m, Stretch>,
     /// Whether the last row found its log full.
+    // Not a `Result`: the logs and the totals are handed back in either case.
     pub lost: bool,
     /// The clock at the end, and the tasks with an open job.
     pub totals: Totals,

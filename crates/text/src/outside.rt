@@ -114,6 +114,7 @@ impl Entering {
     }
 
     // Carries out what was read.
+    // Not a type of items: the reader gives plain results, and only these two functions ask whether one is fair.
     fn hear(&mut self, item: Result<Command, Refusal>) -> Result<Entered, Refusal>
         requires fair { Fair item }
         ensures answer { result ≡ (heard item (desk self.old.setup)).0 }

@@ -40,6 +40,7 @@ impl<'s> Board<'s> {
     }
 
     /// This is the latest job of a task from now on.
+    // Not a type for the numbers of tasks: whether a number is one hangs on the board.
     pub(crate) fn put(&mut self, task: u32, job: Job)
         requires within { task < length (tasks_on self.old) }
         requires bounded { in_bounds (figures_on self.old task) self.old.clock (Some job) ≡ true }

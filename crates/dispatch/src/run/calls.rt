@@ -7,6 +7,7 @@ use super::Run;
 use model::{Answer, Call, Ended, Refusal, Ticked};
 use rules::OrderRule;
 
+// Not a ghost field: that a call leaves set and rule as they are speaks of the run before it, which a type does not see.
 impl<'s, R: OrderRule> Run<'s, R> {
     /// Opens a job of a task and answers the clock. Refused, in this order: no task has the number; fewer than T
     /// ticks since its last granted release.
@@ -76,6 +77,7 @@ impl<'s, R: OrderRule> Run<'s, R> {
             self.old)).1 }
         ensures kept { Kept self.old self.new }
     {
+        // Not a closure: a call is data, which scripts and entries hold.
         match call {
             Call::Release(task) => self.release(task).map(Answer::Released),
             Call::Wait => self.wait().map(Answer::Waits),

@@ -69,6 +69,7 @@ impl<'s, 'm, R: OrderRule> Session<'s, 'm, R> {
             ≡ (command_in (R.OrderRule.before (of_rule self.old.run)) self.old command).1 }
         ensures kept { Kept self.old self.new }
     {
+        // Not a closure: a command is data, read from a script.
         match command {
             Command::Call(call) => self.call(call),
             Command::Close => Ok(Turn::Closes),

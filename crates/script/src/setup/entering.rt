@@ -27,6 +27,7 @@ impl Setup {
         ensures answer { result ≡ (entered command (desk self.old)).0 }
         ensures state { desk self.new ≡ (entered command (desk self.old)).1 }
     {
+        // Not a closure: a command is data, read from a script.
         match command {
             Command::Task(figures) => self.table.add(figures).map(|_| Entered::Stored),
             Command::Rule(choice) => {
