@@ -7,7 +7,7 @@ ghost use Rattle.model.specs.Machine.{last_clock};
 ghost use Rattle.model.specs.State.{is_ready, is_waiting};
 
 use admission::Accepted;
-use model::{Job, Phase};
+use model::Job;
 use tasks::CAPACITY;
 
 mod calls;
@@ -34,12 +34,3 @@ pub(crate) struct Board<'s> {
     ghost ready_tasks: { WordOf is_ready (state_at clock jobs) ready },
     ghost waiting_tasks: { WordOf is_waiting (state_at clock jobs) waiting },
 }
-
-/// What stands for the job of a task that was never released.
-// Not an `Option` further on: such a job asks for nothing and can be told nothing, as a closed one.
-const NO_JOB: Job = Job {
-    release: 0,
-    phase: Phase::Closed,
-    given: 0,
-    waited: 0,
-};

@@ -70,6 +70,7 @@ pub extern "C" fn moshgeti_admit(table: &[u8], rule: &[u8; 3], res: &mut [u8]) -
     ensures answer { Answered table.now rule.now res.old
         res.new result }
 {
+    // Not a Result: a host in C sees a number.
     match answer(table, *rule, res) {
         Ok(()) => 0,
         Err(refusal) => u32::from(refusal.number()),

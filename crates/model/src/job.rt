@@ -8,9 +8,10 @@ pub struct JobId {
 }
 
 /// Where a job stands: it is open while it is ready or waiting.
-#[derive(Clone, Copy, PartialEq, Eq, Debug)]
+#[derive(Clone, Copy, PartialEq, Eq, Debug, Default)]
 pub enum Phase {
     /// The job has ended.
+    #[default]
     Closed,
     /// The job asks for the processor.
     Ready,
@@ -18,8 +19,8 @@ pub enum Phase {
     Waiting,
 }
 
-/// The latest job of a task.
-#[derive(Clone, Copy, PartialEq, Eq, Debug)]
+/// The latest job of a task. The default is closed, and stands for the job of a task that was never released.
+#[derive(Clone, Copy, PartialEq, Eq, Debug, Default)]
 pub struct Job {
     /// The clock of its release.
     pub release: u32,

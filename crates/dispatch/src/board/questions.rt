@@ -3,7 +3,7 @@ ghost use Rattle.std.specs.Prelude.{◌≡◌, ◌<◌, length};
 ghost use Rattle.dispatch.specs.Boards.{figures_on, job_on, set_of, state_of, tasks_on};
 ghost use Rattle.model.specs.Machine.{open_word, ready_word};
 
-use super::{Board, NO_JOB};
+use super::Board;
 use admission::Accepted;
 use model::{Figures, Job};
 
@@ -34,7 +34,7 @@ impl<'s> Board<'s> {
     pub(crate) fn job(&self, task: u32) -> Job
         ensures value { result ≡ job_on self.now task }
     {
-        self.latest(task).unwrap_or(NO_JOB)
+        self.latest(task).unwrap_or_default()
     }
 
     pub(crate) fn clock(&self) -> u32

@@ -19,6 +19,7 @@ pub(crate) fn note<T: Copy>(log: &mut Log<'_, T>, record: Option<T>) -> bool
         ≡ (noted (room log.old) (records log.old) «record»).1 }
     ensures memory { SameMemory log.old log.new }
 {
+    // Not is_some_and: of what its closure pushes on the log the proof learns nothing.
     match record {
         Some(record) => log.push(record).is_err(),
         None => false,
@@ -30,15 +31,12 @@ fn end_of<R: OrderRule>(run: &Run<'_, R>, task: u32, cause: Cause) -> EndRecord
     requires { task < length (set_tasks run.now) }
     ensures value { result ≡ end_of task cause (state run.now) }
 {
-    let (release, given) = match run.latest(task) {
-        Ok(Some(job)) => (job.release, job.given),
-        _ => (0, 0),
-    };
+    let job = run.latest(task).ok().flatten().unwrap_or_default();
     EndRecord {
         task,
-        release,
+        release: job.release,
         end: run.clock(),
-        given,
+        given: job.given,
         cause,
     }
 }
