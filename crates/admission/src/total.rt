@@ -27,7 +27,7 @@ fn reach(own: i32, other: i32, bound: u32, offset: u16) -> i64
     ensures value { result ≡ ((own -ℤ other) +ℤ pos bound) -ℤ pos offset }
     ensures near { result ≤ℤ pos (2 ^ 33) }
 {
-    own as i64 - other as i64 + bound as i64 - offset as i64
+    i64::from(own) - i64::from(other) + i64::from(bound) - i64::from(offset)
 }
 
 /// A reach divided by a period, rounded up; 0 at or below 0.
@@ -38,7 +38,7 @@ fn periods(reach: i64, period: u16) -> u64
     if reach <= 0 {
         return 0;
     }
-    (reach as u64 + u64::from(period - 1)) / u64::from(period)
+    (reach as u64).div_ceil(u64::from(period))
 }
 
 /// What a task takes that reaches so far: its count of jobs times its C.
@@ -52,6 +52,8 @@ fn taken(task: Figures, reach: i64) -> u64
 }
 
 /// What a round looks at: tasks that fit, one point for each, and a figure for the bound of each.
+// Not rows: tasks and points are the caller's and stay, and the figures are new in every round.
+// Not a type for the numbers of tasks: whether a number is one hangs on the round.
 #[derive(Clone, Copy)]
 pub(crate) struct Round<'t> {
     pub(crate) tasks: &'t [Figures],
@@ -86,7 +88,7 @@ impl Round<'_> {
         ensures { result ≡ total self.entry.tasks.now self.entry.points.now self.entry.figures.now own offset }
     {
         let mut sum = u64::from(alone(self.tasks[own])) + u64::from(offset);
-        // Not the `sum` of a chain: how small a share is, its call alone says, and the proof that all fit needs it.
+        // Not the `sum` of a chain: the proof that it fits needs how small each share is, which the call alone says.
         for other in 0..self.tasks.len() {
             sum += self.share(own, offset, other);
         }

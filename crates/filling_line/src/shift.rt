@@ -1,6 +1,6 @@
 //! A shift: the admitted line is dispatched, call by call and in one go.
 use admission::Accepted;
-use dispatch::{Checked, Entry, Run, hold};
+use dispatch::{Checked, Entry, Run, Totals, hold};
 use model::{Answer, Call, Refusal};
 use rules::OrderRule;
 use std::{fmt, io};
@@ -96,6 +96,11 @@ fn print_distance<R>(rt: &impl Print, run: &Run<'_, R>, task: u32) -> io::Result
     println!(rt; "      its distance is {distance}, the bound {bound}")
 }
 
+fn print_totals(rt: &impl Print, totals: Totals) -> io::Result<()> {
+    let Totals { clock, open } = totals;
+    println!(rt; "  closed at {clock}, open tasks {open:b}")
+}
+
 /// Makes the calls one by one, and prints every answer.
 pub fn print_run<'s, R: OrderRule>(
     rt: &impl Print,
@@ -119,10 +124,7 @@ pub fn print_run<'s, R: OrderRule>(
     }
     let ready = run.ready();
     println!(rt; "  ready tasks {ready:b}")?;
-    let totals = run.close();
-    let clock = totals.clock;
-    let open = totals.open;
-    println!(rt; "  closed at {clock}, open tasks {open:b}")
+    print_totals(rt, run.close())
 }
 
 /// Hands the same calls to one call that makes them all, and prints what it hands back.
@@ -132,15 +134,8 @@ pub fn print_held<'s, R: OrderRule>(
     rule: &'s R,
 ) -> io::Result<()> {
     println!(rt; "The same calls in one go:")?;
-    let blank = Entry {
-        call: Call::Tick,
-        answer: None,
-    };
-    let mut entries = [blank; 22];
-    for (entry, call) in entries.iter_mut().zip(picture()) {
-        entry.call = call;
-    }
-    // Not `?`: as above.
+    let mut entries = picture().map(|call| Entry { call, answer: None });
+    // Not `?`: the refusal is part of what is shown.
     let totals = match hold(set, rule, &mut entries) {
         Ok(totals) => totals,
         Err(refusal) => return println!(rt; "  {refusal}"),
@@ -150,7 +145,5 @@ pub fn print_held<'s, R: OrderRule>(
             println!(rt; "  answer: {}", Told(answer))?;
         }
     }
-    let clock = totals.clock;
-    let open = totals.open;
-    println!(rt; "  closed at {clock}, open tasks {open:b}")
+    print_totals(rt, totals)
 }

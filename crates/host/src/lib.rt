@@ -38,6 +38,7 @@ fn test(table: &Table, choice: Choice, place: &mut Accepted) -> Result<(), Refus
     ensures verdict { Tested (listed table.now) (chosen_points choice (listed table.now))
         place.old place.new result }
 {
+    // Not a function that makes the rule: a layer borrows the rule below it, so what stacks them must use them too.
     let bottom = Bottom::new(choice.kind, table);
     let middle = Weighted::over(table, Figure::Execution, choice.execution, &bottom)?;
     let rule = Weighted::over(table, Figure::Suspension, choice.suspension, &middle)?;

@@ -4,8 +4,8 @@ ghost use Rattle.own_rule.specs.Same.{same_before, same_laws, same_point};
 use model::JobId;
 use rules::OrderRule;
 
-/// A rule with one point for every number, which the compiler knows; ties go to the lower number. It may not be let
-/// go: `end` takes it.
+/// A rule with one point for every number, which the compiler knows; ties go to the lower number. It may not be
+/// dropped: `end` takes it.
 pub struct SamePoint<const POINT: u16> {}
 
 impl<const POINT: u16> SamePoint<POINT> {

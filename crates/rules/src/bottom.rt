@@ -115,6 +115,7 @@ impl OrderRule for Bottom {
         self.points.get(task)
     }
 
+    // Not a comparison of pairs: the tie of a layer is another rule, and all rules are written alike.
     fn goes_before(&self, a: JobId, b: JobId) -> bool {
         let p = self.priority(a);
         let q = self.priority(b);

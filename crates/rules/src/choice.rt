@@ -16,12 +16,11 @@ pub struct Choice {
     pub suspension: i32,
 }
 
-/// Deadline with weights 0: what is meant where nothing is chosen.
-// Not a derive: what is meant is a promise, and a derive would promise whatever variant it marks.
-impl Default for Choice {
-    ghost is_default = { λ choice. choice ≡ plain };
-
-    fn default() -> Choice {
+impl Choice {
+    /// Deadline with weights 0: what is meant where nothing is chosen.
+    pub const fn plain() -> Choice
+        ensures value { result ≡ plain }
+    {
         Choice {
             kind: Kind::Deadline,
             execution: 0,
@@ -30,7 +29,18 @@ impl Default for Choice {
     }
 }
 
+/// The plain choice.
+// Not a derive: what is meant where nothing is chosen is a promise, and a derive would promise whatever it makes.
+impl Default for Choice {
+    ghost is_default = { λ choice. choice ≡ plain };
+
+    fn default() -> Choice {
+        Choice::plain()
+    }
+}
+
 // A weight from its byte in two's complement. Refused outside −16 … 16.
+// Not a `TryFrom`: byte and number are the language's own types.
 fn weight(byte: u8) -> Result<i32, Refusal>
     ensures answer { result ≡ weight_from byte }
 {

@@ -34,6 +34,8 @@ impl Points {
     }
 
     /// Gives one task another point.
+    // Not one function with a closure for the point: the level of a task hangs on the one before it, so the closure would
+    // have a state of its own.
     pub(crate) fn put(&mut self, task: usize, point: i32)
         requires within { task < most_tasks }
         requires range { InRange point }

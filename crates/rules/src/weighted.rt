@@ -48,6 +48,7 @@ impl Figure {
 }
 
 /// Refuses a weight outside −16 … 16.
+// Not a type of weights: a layer is handed any number and refuses it, so the type would be made and taken apart at once.
 pub(crate) fn check_weight(weight: i32) -> Result<(), Refusal>
     ensures answer { result ≡ question ((not (allowed weight), RuleOutOfRange) ∷ []) tt }
 {

@@ -53,6 +53,7 @@ pub struct Lost {
 }
 
 /// What a granted command of a run asks of its session.
+// Not an `Option`: a close is asked for, and nothing is missing.
 #[derive(Clone, Copy, PartialEq, Eq, Debug)]
 pub enum Turn {
     /// Nothing more: the call was made.
@@ -65,7 +66,7 @@ pub enum Turn {
 pub const RECORDS: usize = 256;
 
 /// What stands in the memory of a log before an end is pushed.
-// Not a `Default`: a constant can fill an array that is a constant itself. So with the next one.
+// Not a `Default`: nothing here is an end that one would mean. So with the next one.
 pub const NO_END: EndRecord = EndRecord {
     task: 0,
     release: 0,

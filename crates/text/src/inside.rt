@@ -55,6 +55,7 @@ impl<'s, 'm, R: OrderRule> Play<'s, 'm, R> {
     }
 
     /// Carries out what was read and says what it answers. Answers whether the run is to be closed.
+    // Not a `ControlFlow`: one thing is asked, and `if run.step(..)? { break; }` says it.
     pub(crate) fn step(
         &mut self,
         item: Result<Command, Refusal>,

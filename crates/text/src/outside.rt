@@ -66,6 +66,7 @@ impl Player<'_> {
     }
 
     // Tests a table under a rule, and plays the run if it passes. Answers whether it did.
+    // Not a `ControlFlow`: whether a run was played is all that is asked, here and in the callers.
     fn test<R: OrderRule>(&mut self, table: &Table, rule: &R) -> Result<bool, AllocError>
         ensures tried { IfOk result (Tried (listed table.now) (R.OrderRule.points rule.now)
             (R.OrderRule.before rule.now) self.old self.new) }
@@ -103,6 +104,7 @@ impl Entering {
     {
         let table = self.setup.table();
         let choice = self.setup.choice();
+        // Not a function that makes the rule: a layer borrows the rule below it, so what stacks them must use them too.
         let bottom = Bottom::new(choice.kind, table);
         let Ok(middle) = Weighted::over(table, Figure::Execution, choice.execution, &bottom) else {
             unreachable!()

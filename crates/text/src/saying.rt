@@ -15,6 +15,7 @@ use script::{Closed, Lost};
 use std::alloc::AllocError;
 
 /// Says a line.
+// Not a type of texts: a `String` is handed out in the end, and each function here says lines of its own.
 pub(crate) fn say(text: &mut String, line: Line) -> Result<(), AllocError>
     ensures bytes { OnOk result (string_bytes text.new
         ≡ string_bytes text.old ++ printed (line ∷ [])) }

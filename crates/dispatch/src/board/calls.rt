@@ -8,6 +8,7 @@ use crate::event::Event;
 use model::{Ended, Job, Phase, Refusal};
 use rules::OrderRule;
 
+// Not a ghost field: that a call leaves the set as it is speaks of the board before it.
 impl<'s> Board<'s> {
     // Whether fewer than a period of ticks have passed since the latest release.
     fn released_within(&self, task: u32, period: u16) -> bool

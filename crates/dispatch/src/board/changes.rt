@@ -39,7 +39,7 @@ impl<'s> Board<'s> {
         }
     }
 
-    /// This is the latest job of a task from now on.
+    /// Makes a job the latest of its task.
     // Not a type for the numbers of tasks: whether a number is one hangs on the board.
     pub(crate) fn put(&mut self, task: u32, job: Job)
         requires within { task < length (tasks_on self.old) }

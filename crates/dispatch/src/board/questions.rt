@@ -30,7 +30,7 @@ impl<'s> Board<'s> {
         self.jobs.get(task as usize).copied().flatten()
     }
 
-    /// The same, with a closed job for a task that was never released.
+    /// The latest job of a task; a closed one for a task that was never released.
     pub(crate) fn job(&self, task: u32) -> Job
         ensures value { result ≡ job_on self.now task }
     {

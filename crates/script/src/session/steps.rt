@@ -16,6 +16,7 @@ use model::{Call, Refusal};
 use record_log::Log;
 use rules::OrderRule;
 
+// Not a ghost field: that a step keeps set, rule and memory speaks of the session before it.
 impl<'s, 'm, R: OrderRule> Session<'s, 'm, R> {
     /// Starts a run of a set and a rule that were checked, over these logs.
     pub fn start(
@@ -75,6 +76,20 @@ impl<'s, 'm, R: OrderRule> Session<'s, 'm, R> {
             Command::Close => Ok(Turn::Closes),
             Command::Task(_) | Command::Rule(_) | Command::Start => Err(Refusal::OutOfPlace),
         }
+    }
+
+    /// The ends that are recorded so far.
+    pub fn ends(&self) -> &[EndRecord]
+        ensures value { result.now ≡ records self.now.ends }
+    {
+        self.ends.as_slice()
+    }
+
+    /// The stretches that are recorded so far, without the row that goes on.
+    pub fn stretches(&self) -> &[Stretch]
+        ensures value { result.now ≡ records self.now.stretches }
+    {
+        self.stretches.as_slice()
     }
 
     /// Closes the run, pushes the row that goes on, and hands the logs back.
