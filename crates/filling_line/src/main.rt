@@ -43,6 +43,7 @@ fn print_table(rt: &impl Print, table: &Table, names: &[&str]) -> io::Result<()>
 
 fn main(rt: HostRuntime) -> anyhow::Result<()> {
     let mut table = Table::new();
+    // Not in the table: it keeps figures alone.
     let mut names = Vec::new(rt.alloc());
     println!(rt; "Entering the tasks of a filling line; a tick is a millisecond.")?;
     for row in rows().iter() {
