@@ -1,17 +1,16 @@
 -- From the steps of a call to what it answers.
-use Rattle.std.proofs.Common.{◌≡◌, ℕ, ◌*◌, ◌%◌, ◌≤◌, Bool, true, false, not, ◌||◌, eqb, ltb, List, [], ◌∷◌, ◌++◌, length, get_or, drop, ℤ, Ok, Err, Result, sym, refl, ap, ◌∙◌, subst, ap₂, subst₂, inl, inr, arith}
-use Rattle.std.proofs.lemmas.Bool.{ltb-false, not-false, or_parts}
+use Rattle.std.proofs.Common.{◌≡◌, ℕ, ◌*◌, ◌%◌, ◌≤◌, Bool, true, false, not, eqb, ltb, List, [], ◌∷◌, ◌++◌, length, get_or, drop, ℤ, Ok, Result, sym, refl, ap, ◌∙◌, subst, ap₂, subst₂, inl, inr, arith}
+use Rattle.std.proofs.lemmas.Bool.{ltb-false, or_parts}
 use Rattle.admission.specs.Tested as tested
 use Rattle.admission.specs.Views.{tasks_of, bounds_of, offsets_of}
 use Rattle.admission.specs.declared.accepted.Accepted.{Accepted}
 use Rattle.model.specs.Checks.{question}
 use Rattle.model.specs.Refusals.{number}
-use Rattle.model.specs.Rules.{allowed}
 use Rattle.model.specs.Verdict.{Admits, Refuses}
 use Rattle.model.specs.declared.figures.Figures.{Figures}
 use Rattle.model.specs.declared.refusal.Refusal.{Refusal}
 use Rattle.model.specs.declared.refusal.Refusal.TheVariants.{RuleOutOfRange, WrongLength}
-use Rattle.rules.specs.Choices.{choose, out_of_range, signed}
+use Rattle.rules.specs.Choices.{choose, out_of_range}
 use Rattle.rules.specs.declared.choice.Choice.{Choice}
 use Rattle.host.specs.Answered.{Answered, Follows, chosen, chosen_points}
 use Rattle.host.specs.Checked.{checks, table_checks, wrong_length}
@@ -23,10 +22,6 @@ passed : {A : Type 0} (b : Bool) (e : Refusal) (x y : A) → Ok y ≡ question (
 passed true e x y is = absurd (grind arith)
 passed false e x y is = (refl, (cc))
 
-refused : {A : Type 0} (b : Bool) (e refusal : Refusal) (x : A) → Err refusal ≡ question ((b, e) ∷ []) x → (b ≡ true) × (refusal ≡ e)
-refused true e refusal x is = (refl, (cc))
-refused false e refusal x is = absurd (grind arith)
-
 module _ (table rule before : List ℕ) where
   -- The lengths pass.
   abbrev pub LengthsPass : Type 0
@@ -35,10 +30,6 @@ module _ (table rule before : List ℕ) where
   -- What the rule bytes choose.
   abbrev pub Chooses : Result Choice Refusal → Type 0
   Chooses r = r ≡ choose (get_or rule 0 0) (get_or rule 1 0) (get_or rule 2 0)
-
-  refused_with : (e : Refusal) → Err e ≡ question (checks table rule (length before)) (rows table)
-      → Answered table rule before before (number e)
-  refused_with e is = subst (Follows (chosen rule) before before (number e)) is (record { why = refl; same = refl })
 
   module _ (lengths : LengthsPass) where
     long : wrong_length table (length before) ≡ false
@@ -51,35 +42,13 @@ module _ (table rule before : List ℕ) where
         let count = length_rows table in
         omega (arith, ltb-false (length before) (4 * row_count table) short)
 
-    pub refused_by_rule : (e : Refusal) → Chooses (Err e) → Answered table rule before before (number e)
-    refused_by_rule e is =
-        let (out, why) = refused (out_of_range (get_or rule 0 0) (get_or rule 1 0) (get_or rule 2 0)) RuleOutOfRange e (chosen rule) is in
-        refused_with e (simp (long, out, why))
-
     module _ (choice : Choice) (chooses : Chooses (Ok choice)) where
       in_range : (out_of_range (get_or rule 0 0) (get_or rule 1 0) (get_or rule 2 0) ≡ false) × (choice ≡ chosen rule)
       in_range = passed (out_of_range (get_or rule 0 0) (get_or rule 1 0) (get_or rule 2 0)) RuleOutOfRange (chosen rule) choice chooses
 
-      -- Both weights are allowed.
-      pub light : (allowed choice.execution ≡ true) × (allowed choice.suspension ≡ true)
-      light =
-          let (inside, is) = in_range in
-          let kind = get_or rule 0 0 in
-          let execution = allowed (signed (get_or rule 1 0)) in
-          let suspension = allowed (signed (get_or rule 2 0)) in
-          let weights = or_parts (not execution) (not suspension)
-          (or_parts (ltb 2 kind) (not execution || not suspension) inside).1 in (
-            subst (λ (x : Choice). allowed x.execution ≡ true) (sym is) (not-false execution weights.0),
-            subst (λ (x : Choice). allowed x.suspension ≡ true) (sym is) (not-false suspension weights.1),
-          )
-
       -- Lengths and rule pass, so the checks of the table decide.
       by_table : question (table_checks (rows table)) (rows table) ≡ question (checks table rule (length before)) (rows table)
       by_table = let inside = in_range.0 in simp (long, inside)
-
-      pub refused_by_table : (e : Refusal) → question (table_checks (rows table)) (rows table) ≡ Err e
-          → Answered table rule before before (number e)
-      refused_by_table e is = refused_with e (sym is ∙ by_table)
 
       module _ (tasks : List Figures) (passes : question (table_checks (rows table)) (rows table) ≡ Ok (rows table))
           (entered : tasks ≡ rows table) where

@@ -1,6 +1,6 @@
 -- Lines one after the other.
-use Rattle.std.proofs.Common.{◌≡◌, ℕ, suc, ◌+◌, ◌<◌, ◌≤◌, List, [], ◌∷◌, ◌++◌, map, length, get_or, take, IfOk, Ok, Err, Result, sym, refl, ap, ◌∙◌, append_assoc, arith}
-use Rattle.std.proofs.lemmas.List.{length-take-le, map_more, take_all, take_more}
+use Rattle.std.proofs.Common.{◌≡◌, ℕ, suc, ◌+◌, ◌<◌, List, [], ◌∷◌, ◌++◌, map, length, get_or, take, IfOk, Ok, Err, Result, sym, refl, ap, ◌∙◌, append_assoc, arith}
+use Rattle.std.proofs.lemmas.List.{length-take-le, map_more, take_more}
 use Rattle.admission.specs.Held.{bounds_in, offsets_in}
 use Rattle.admission.specs.declared.accepted.Admitted.{Admitted}
 use Rattle.text.specs.Lines.{line, printed}
@@ -58,17 +58,6 @@ said_bound rows i d before now after h first then =
     rw (take_more rows i d h, bound_lines_push 0 (take i rows) (get_or rows i d), at)
     (said_more before now after (bound_lines 0 (bounds_in (take i rows)) (offsets_in (take i rows)))
     (Bound i (get_or rows i d).bound (get_or rows i d).offset ∷ []) first then)
-
--- All of them.
-pub said_all : {T : Type 0} (f : T → Line) (xs ys : List T) (i : ℕ) (before now : List ℕ) → length xs ≤ i → xs ≡ ys
-    → now ≡ before ++ printed (map f (take i xs)) → now ≡ before ++ printed (map f ys)
-said_all f xs ys i before now h same first = first ∙ ap (λ (zs : List _). before ++ printed (map f zs)) (take_all i xs h ∙ same)
-
-pub said_bounds : (rows all : List Admitted) (i : ℕ) (before now : List ℕ) → length rows ≤ i → rows ≡ all
-    → now ≡ before ++ printed (bound_lines 0 (bounds_in (take i rows)) (offsets_in (take i rows)))
-    → now ≡ before ++ printed (bound_lines 0 (bounds_in all) (offsets_in all))
-said_bounds rows all i before now h same first =
-    first ∙ ap (λ (rs : List Admitted). before ++ printed (bound_lines 0 (bounds_in rs) (offsets_in rs))) (take_all i rows h ∙ same)
 
 -- Lines that are said, and those that are left to say.
 pub said_then : (before now : List ℕ) (ls later : List Line) → now ≡ before ++ printed ls

@@ -2,31 +2,8 @@ use Rattle.std.proofs.Common.{◌*◌, ◌≤◌, List, length, sym, ◌∙◌, 
 use Rattle.std.proofs.lemmas.Result.{err_from_is_err_and}
 use Rattle.model.specs.declared.figures.Figures.{Figures}
 use Rattle.tasks.specs.Listed.{listed}
-use Rattle.host.proofs.Outcomes.{light, refused_by_rule, refused_by_table, room, said_no, said_yes}
+use Rattle.host.proofs.Outcomes.{room, said_no, said_yes}
 use Rattle.host.proofs.answer.Goals as goal
-
-pub returns-in_err-choice : goal.returns-in_err-choice
-returns-in_err-choice c =
-    let p = err_from_is_err_and c.from_residual-in_err-choice.result c.from_residual-in_err-choice.ensures.1 in
-    record {
-      answer = rw (p.1, p.2) (refused_by_rule c.args.table.now c.args.rule c.args.res.now
-          c.in_ok-check_lengths.ensures.answer c.in_err-choice.field-0.0 c.in_err-choice.ensures.answer);
-    }
-
-pub returns-in_err-entered : goal.returns-in_err-entered
-returns-in_err-entered c =
-    let p = err_from_is_err_and c.from_residual-in_err-entered.result c.from_residual-in_err-entered.ensures.1 in
-    record {
-      answer = rw (p.1, p.2) (refused_by_table c.args.table.now c.args.rule c.args.res.now
-          c.in_ok-check_lengths.ensures.answer c.in_ok-choice.choice c.in_ok-choice.ensures.answer
-          c.in_err-entered.field-0.0 c.in_err-entered.ensures.answer);
-    }
-
-pub test-requires : goal.test-requires
-test-requires c =
-    let weights = light c.args.table.now c.args.rule c.args.res.now c.in_ok-check_lengths.ensures.answer
-    c.in_ok-choice.choice c.in_ok-choice.ensures.answer in
-    record { execution = weights.0; suspension = weights.1 }
 
 pub returns-in_err-test : goal.returns-in_err-test
 returns-in_err-test c =
