@@ -41,7 +41,7 @@ fn print_table(rt: &impl Print, table: &Table, names: &[&str]) -> io::Result<()>
     Ok(())
 }
 
-fn main(rt: HostRuntime) -> anyhow::Result<()> {
+fn main(rt: HostRuntime) -> io::Result<()> {
     let mut table = Table::new();
     // Not in the table: it keeps figures alone.
     let mut names = Vec::new(rt.alloc());
@@ -68,6 +68,5 @@ fn main(rt: HostRuntime) -> anyhow::Result<()> {
         let _ = enter(&rt, &mut bench, row)?;
     }
     let rule = Bottom::deadline(&bench);
-    print_verdict(&rt, "deadline", &bench, &rule, &mut place)?;
-    Ok(())
+    print_verdict(&rt, "deadline", &bench, &rule, &mut place)
 }

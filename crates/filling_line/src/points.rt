@@ -13,14 +13,16 @@ fn print_row<R: OrderRule>(rt: &impl Print, label: &str, rule: &R, count: u32) -
 }
 
 /// Prints a line for each rule.
-pub fn print_points(rt: &impl Print, table: &Table) -> anyhow::Result<()> {
+pub fn print_points(rt: &impl Print, table: &Table) -> io::Result<()> {
     let count = table.count() as u32;
     let deadline = Bottom::deadline(table);
     println!(rt; "Points of the tasks:")?;
     print_row(rt, "deadline", &deadline, count)?;
     print_row(rt, "arrival", &Bottom::arrival(), count)?;
     print_row(rt, "level", &Bottom::level(table), count)?;
-    let patient = Weighted::over(table, Figure::Suspension, 1, &deadline)?;
-    print_row(rt, "deadline, S-weight 1", &patient, count)?;
-    Ok(())
+    // Not `?`: what `main` hands up is what a failed write says, and a refusal is shown.
+    match Weighted::over(table, Figure::Suspension, 1, &deadline) {
+        Ok(patient) => print_row(rt, "deadline, S-weight 1", &patient, count),
+        Err(refusal) => println!(rt; "  {refusal}"),
+    }
 }

@@ -24,13 +24,15 @@ pub fn print_verdict<R: OrderRule>(
 }
 
 /// Tests a table under each rule in turn, always in the same place.
-pub fn print_verdicts(rt: &impl Print, table: &Table, place: &mut Accepted) -> anyhow::Result<()> {
+pub fn print_verdicts(rt: &impl Print, table: &Table, place: &mut Accepted) -> io::Result<()> {
     println!(rt; "Verdicts:")?;
     let deadline = Bottom::deadline(table);
     print_verdict(rt, "arrival", table, &Bottom::arrival(), place)?;
     print_verdict(rt, "level", table, &Bottom::level(table), place)?;
-    let patient = Weighted::over(table, Figure::Suspension, 1, &deadline)?;
-    print_verdict(rt, "deadline, S-weight 1", table, &patient, place)?;
-    print_verdict(rt, "deadline", table, &deadline, place)?;
-    Ok(())
+    // Not `?`: what `main` hands up is what a failed write says, and a refusal is shown.
+    match Weighted::over(table, Figure::Suspension, 1, &deadline) {
+        Ok(patient) => print_verdict(rt, "deadline, S-weight 1", table, &patient, place)?,
+        Err(refusal) => println!(rt; "  {refusal}")?,
+    }
+    print_verdict(rt, "deadline", table, &deadline, place)
 }

@@ -1,6 +1,6 @@
 //! Lines of commented hexadecimal.
 use hex::{FromHex, FromHexError};
-use std::alloc::{AllocError, Global};
+use std::alloc::AllocError;
 use thiserror::Error;
 
 /// Why a line gives no bytes.
@@ -12,15 +12,20 @@ pub enum Fault {
     NoMemory(#[from(alloc)] AllocError),
 }
 
-/// The bytes of a line, up to its comment.
-pub fn decode(heap: Global, line: &[u8]) -> Result<Vec<u8>, Fault> {
-    let mut bytes = Vec::new(heap);
-    let code = line.split(|byte| *byte == b'#').next().unwrap_or(line);
-    for word in code.split(|byte| matches!(byte, b' ' | b'\t' | b'\r')) {
-        for digits in word.chunks(2) {
-            let [byte] = <[u8; 1]>::from_hex(digits)?;
-            bytes.push(byte)?;
-        }
+/// Appends the bytes of a line up to its comment. Of a line that is not hexadecimal, what stands before the fault is
+/// appended.
+pub fn decode(line: &[u8], bytes: &mut Vec<u8>) -> Result<(), Fault> {
+    let mut rest = line;
+    loop {
+        rest = match rest {
+            [] | [b'#', ..] => return Ok(()),
+            [b' ' | b'\t' | b'\r', after @ ..] => after,
+            [high, low, after @ ..] => {
+                let [byte] = <[u8; 1]>::from_hex([*high, *low])?;
+                bytes.push(byte)?;
+                after
+            }
+            [_] => return Err(FromHexError::OddLength.into()),
+        };
     }
-    Ok(bytes)
 }

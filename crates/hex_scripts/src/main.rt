@@ -12,31 +12,32 @@ use std::alloc::Global;
 use std::io;
 use std::io::{Read, Write};
 
-/// A script as it is read: the bytes of its lines so far; none if one of them was not hexadecimal.
+/// A script as it is read: the bytes of its lines so far, unless one of them was not hexadecimal.
+// Not an `Option` of the bytes: lines behind a fault are read too, and each would want a `Vec` to be read into.
 #[derive(Drop)]
 struct Script {
-    bytes: Option<Vec<u8>>,
+    bytes: Vec<u8>,
+    readable: bool,
 }
 
 impl Script {
     fn new(heap: Global) -> Script {
         Script {
-            bytes: Some(Vec::new(heap)),
+            bytes: Vec::new(heap),
+            readable: true,
         }
     }
 
     /// Reads a line, and prints its number if it is not hexadecimal.
     fn read(&mut self, rt: &HostRuntime, number: usize, line: &[u8]) -> io::Result<()> {
-        match decode(rt.alloc(), line) {
-            Ok(read) => {
-                if let Some(bytes) = &mut self.bytes {
-                    bytes.extend_from_slice(&read)?;
-                }
-                Ok(())
-            }
+        if line.is_empty() {
+            return Ok(());
+        }
+        match decode(line, &mut self.bytes) {
+            Ok(()) => Ok(()),
             Err(Fault::NoMemory(error)) => Err(error.into()),
             Err(fault) => {
-                self.bytes = None;
+                self.readable = false;
                 println!(rt; "line {number}: {fault}")
             }
         }
@@ -44,10 +45,10 @@ impl Script {
 
     /// Plays the script, and prints its text.
     fn play(self, rt: &HostRuntime) -> io::Result<()> {
-        let Some(bytes) = self.bytes else {
+        if !self.readable {
             return Ok(());
-        };
-        let text = text::play(rt.alloc(), &bytes)?;
+        }
+        let text = text::play(rt.alloc(), &self.bytes)?;
         rt.stdout().write_all(text.as_bytes())
     }
 }

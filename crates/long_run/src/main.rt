@@ -4,13 +4,21 @@
 use admission::Accepted;
 use dispatch::{Checked, LAST_CLOCK};
 use rules::Bottom;
+use std::io;
 
-fn main(rt: HostRuntime) -> anyhow::Result<()> {
+fn main(rt: HostRuntime) -> io::Result<()> {
     let set = Accepted::new();
     let rule = Bottom::arrival();
-    let mut run = Checked::check(&set, &rule)?.start();
-    for _ in 0..LAST_CLOCK {
-        run.tick()?;
+    // Not `?`: what `main` hands up is what a failed write says, and a refusal is shown.
+    let checked = match Checked::check(&set, &rule) {
+        Ok(checked) => checked,
+        Err(refusal) => return println!(rt; "{refusal}"),
+    };
+    let mut run = checked.start();
+    for clock in 0..LAST_CLOCK {
+        if let Err(refusal) = run.tick() {
+            return println!(rt; "tick at clock {clock}: {refusal}");
+        }
     }
     let clock = run.clock();
     println!(rt; "{clock} ticks were granted")?;

@@ -1,4 +1,5 @@
 pub mod Chosen
 mod Filled
 mod Made
+mod Products
 mod Stored

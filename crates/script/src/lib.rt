@@ -12,5 +12,5 @@ pub use command::Command;
 pub use law::record_law;
 pub use reader::Reader;
 pub use records::{Cause, EndRecord, Lost, NO_END, NO_STRETCH, RECORDS, Row, Stretch, Turn};
-pub use session::{Closed, Session};
+pub use session::{Closed, Recording, Report, Session};
 pub use setup::{Entered, Setup};

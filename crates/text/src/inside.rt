@@ -4,7 +4,7 @@ ghost use Rattle.dispatch.specs.Runs.{of_rule, set_tasks};
 ghost use Rattle.record_log.specs.Records.{room};
 ghost use Rattle.script.specs.Kept.{Kept};
 ghost use Rattle.script.specs.Sessions.{opened};
-ghost use Rattle.script.specs.Views.{books};
+ghost use Rattle.script.specs.Views.{books_in};
 ghost use Rattle.text.specs.Spoken.{log_room, obeyed};
 
 use crate::line::Line;
@@ -13,15 +13,15 @@ use dispatch::Checked;
 use model::Refusal;
 use record_log::Log;
 use rules::OrderRule;
-use script::{Command, EndRecord, RECORDS, Session, Stretch, Turn};
+use script::{Command, EndRecord, RECORDS, Recording, Stretch, Turn};
 use std::alloc::AllocError;
 
 /// A run that is played. Its logs have the room that a script gives them.
 #[derive(Drop)]
 pub(crate) struct Play<'s, 'm, R> {
-    pub(crate) session: Session<'s, 'm, R>,
-    ghost end_room: { room session.ends ≡ log_room },
-    ghost row_room: { room session.stretches ≡ log_room },
+    pub(crate) recording: Recording<'s, 'm, R>,
+    ghost end_room: { room recording.ends ≡ log_room },
+    ghost row_room: { room recording.stretches ≡ log_room },
 }
 
 impl<'s, 'm, R: OrderRule> Play<'s, 'm, R> {
@@ -34,24 +34,24 @@ impl<'s, 'm, R: OrderRule> Play<'s, 'm, R> {
         ends: &'m mut [EndRecord; RECORDS],
         stretches: &'m mut [Stretch; RECORDS],
     ) -> Play<'s, 'm, R>
-        ensures tasks { set_tasks result.session.run ≡ tasks_of checked.entry.set.now }
-        ensures rule { of_rule result.session.run ≡ checked.entry.rule.now }
-        ensures books { books result.session ≡ opened }
+        ensures tasks { set_tasks result.recording.session.run ≡ tasks_of checked.entry.set.now }
+        ensures rule { of_rule result.recording.session.run ≡ checked.entry.rule.now }
+        ensures books { books_in result.recording ≡ opened }
     {
         Play {
-            session: Session::start(checked, Log::over(ends), Log::over(stretches)),
+            recording: Recording::start(checked, Log::over(ends), Log::over(stretches)),
         }
     }
 
     // Carries out what was read.
     fn obey(&mut self, item: Result<Command, Refusal>) -> Result<Turn, Refusal>
-        ensures answer { result ≡ (obeyed (set_tasks self.old.session.run)
-            (R.OrderRule.before (of_rule self.old.session.run)) item (books self.old.session)).0 }
-        ensures state { books self.new.session ≡ (obeyed (set_tasks self.old.session.run)
-            (R.OrderRule.before (of_rule self.old.session.run)) item (books self.old.session)).1 }
-        ensures kept { Kept self.old.session self.new.session }
+        ensures answer { result ≡ (obeyed (set_tasks self.old.recording.session.run)
+            (R.OrderRule.before (of_rule self.old.recording.session.run)) item (books_in self.old.recording)).0 }
+        ensures state { books_in self.new.recording ≡ (obeyed (set_tasks self.old.recording.session.run)
+            (R.OrderRule.before (of_rule self.old.recording.session.run)) item (books_in self.old.recording)).1 }
+        ensures kept { Kept self.old.recording self.new.recording }
     {
-        self.session.step(item?)
+        self.recording.step(item?)
     }
 
     /// Carries out what was read and says what it answers. Answers whether the run is to be closed.
@@ -61,11 +61,11 @@ impl<'s, 'm, R: OrderRule> Play<'s, 'm, R> {
         item: Result<Command, Refusal>,
         text: &mut String,
     ) -> Result<bool, AllocError>
-        ensures said { IfOk result (λ closes. Said (set_tasks self.old.session.run)
-            (R.OrderRule.before (of_rule self.old.session.run)) item
-            (books self.old.session) (books self.new.session)
+        ensures said { IfOk result (λ closes. Said (set_tasks self.old.recording.session.run)
+            (R.OrderRule.before (of_rule self.old.recording.session.run)) item
+            (books_in self.old.recording) (books_in self.new.recording)
             (string_bytes text.old) (string_bytes text.new) closes) }
-        ensures kept { Kept self.old.session self.new.session }
+        ensures kept { Kept self.old.recording self.new.recording }
     {
         match self.obey(item) {
             Ok(Turn::Made(lost)) => {

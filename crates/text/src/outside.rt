@@ -47,8 +47,8 @@ impl Player<'_> {
                 break;
             }
         }
-        let Play { session } = run;
-        say_report(text, &session.close())
+        let Play { recording } = run;
+        say_report(text, &recording.close())
     }
 
     // Says the bounds of a set that was tested under this rule, and plays the run.

@@ -11,7 +11,7 @@ use crate::line::Line;
 use admission::Accepted;
 use model::Refusal;
 use record_log::Log;
-use script::{Closed, Lost};
+use script::{Lost, Report};
 use std::alloc::AllocError;
 
 /// Says a line.
@@ -70,11 +70,11 @@ pub(crate) fn say_records<T: Copy + Into<Line>>(
 }
 
 /// Says the report of a closed run.
-pub(crate) fn say_report(text: &mut String, closed: &Closed<'_>) -> Result<(), AllocError>
+pub(crate) fn say_report(text: &mut String, report: &Report<'_>) -> Result<(), AllocError>
     ensures bytes { OnOk result (string_bytes text.new ≡ string_bytes text.old ++ printed
-        (report_of closed.now.lost (records closed.now.ends) (records closed.now.stretches))) }
+        (report_of report.now.closed.lost (records report.now.ends) (records report.now.stretches))) }
 {
-    say_loss(text, closed.lost)?;
-    say_records(text, &closed.ends)?;
-    say_records(text, &closed.stretches)
+    say_loss(text, report.closed.lost)?;
+    say_records(text, &report.ends)?;
+    say_records(text, &report.stretches)
 }

@@ -109,6 +109,10 @@ has_or (suc j) a b =
     has_suc (bit_or a b) j ∙ ap (λ (x : ℕ). has x j) rest ∙ has_or j (a / 2) (b / 2)
     ∙ sym (ap₂ (λ x y. x || y) (has_suc a j) (has_suc b j))
 
--- A bit put into a word leaves the other bits.
-pub has_marked : (w k : ℕ) → k < 32 → (j : ℕ) → has (bit_or w (1 * 2 ^ k % 2 ^ 32)) j ≡ (has w j || eqb j k)
-has_marked w k h j = simp (one_shl k 32 h) (has_or j w (2 ^ k) ∙ ap (λ b. has w j || b) (has_power k j))
+-- A power of two put in leaves the other bits.
+pub has_marked : (k w j : ℕ) → has (bit_or w (2 ^ k)) j ≡ (has w j || eqb j k)
+has_marked k w j = has_or j w (2 ^ k) ∙ ap (λ b. has w j || b) (has_power k j)
+
+-- A bit put into a word of 32 bits leaves the other bits.
+pub put_in : (w k : ℕ) → k < 32 → (j : ℕ) → has (bit_or w (1 * 2 ^ k % 2 ^ 32)) j ≡ (has w j || eqb j k)
+put_in w k h j = simp (one_shl k 32 h) (has_marked k w j)

@@ -37,3 +37,7 @@ same_up_to (suc f) v w p q h =
 -- Numbers with the same bits are one number.
 pub same_bits : (v w : ℕ) → ((k : ℕ) → has v k ≡ has w k) → v ≡ w
 same_bits v w h = same_up_to (v + w) v w (omega arith) (omega arith) h
+
+-- A number with no bit set is 0.
+pub zero_has : (w : ℕ) → ((k : ℕ) → has w k ≡ false) → w ≡ 0
+zero_has w h = same_bits w 0 (λ k. h k ∙ sym (has_zero k))

@@ -7,9 +7,9 @@ use Rattle.text.proofs.saying.say_report.Goals as goal
 
 pub returns : goal.returns
 returns c =
-    let closed = c.args.closed.now in
+    let report = c.args.report.now in
     record {
-      bytes = said_third c.say_records-2.result _ _ _ _ (loss closed.lost) (map End (records closed.ends)) (map Run (records closed.stretches))
+      bytes = said_third c.say_records-2.result _ _ _ _ (loss report.closed.lost) (map End (records report.ends)) (map Run (records report.stretches))
           c.in_ok-say_loss.ensures.bytes (c.in_ok-say_records.ensures.bytes End (λ _ _ e. e))
           (c.say_records-2.ensures.bytes Run (λ _ _ e. e));
     }
