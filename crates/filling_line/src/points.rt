@@ -20,7 +20,7 @@ pub fn print_points(rt: &impl Print, table: &Table) -> io::Result<()> {
     print_row(rt, "deadline", &deadline, count)?;
     print_row(rt, "arrival", &Bottom::arrival(), count)?;
     print_row(rt, "level", &Bottom::level(table), count)?;
-    // Not `?`: what `main` hands up is what a failed write says, and a refusal is shown.
+    // Not `?`: what `main` hands up is what a failed write or want of memory says, and a refusal is shown.
     match Weighted::over(table, Figure::Suspension, 1, &deadline) {
         Ok(patient) => print_row(rt, "deadline, S-weight 1", &patient, count),
         Err(refusal) => println!(rt; "  {refusal}"),

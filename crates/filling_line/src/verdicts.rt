@@ -29,7 +29,7 @@ pub fn print_verdicts(rt: &impl Print, table: &Table, place: &mut Accepted) -> i
     let deadline = Bottom::deadline(table);
     print_verdict(rt, "arrival", table, &Bottom::arrival(), place)?;
     print_verdict(rt, "level", table, &Bottom::level(table), place)?;
-    // Not `?`: what `main` hands up is what a failed write says, and a refusal is shown.
+    // Not `?`: what `main` hands up is what a failed write or want of memory says, and a refusal is shown.
     match Weighted::over(table, Figure::Suspension, 1, &deadline) {
         Ok(patient) => print_verdict(rt, "deadline, S-weight 1", table, &patient, place)?,
         Err(refusal) => println!(rt; "  {refusal}")?,

@@ -30,6 +30,7 @@ impl Script {
 
     /// Reads a line, and prints its number if it is not hexadecimal.
     fn read(&mut self, rt: &HostRuntime, number: usize, line: &[u8]) -> io::Result<()> {
+        // Asked first for speed: a script may have many blank lines.
         if line.is_empty() {
             return Ok(());
         }
